@@ -1,0 +1,4 @@
+// What statements mean.
+pub fn nothing() -> u8 {
+    0
+}
