@@ -1,0 +1,3 @@
+pub mod Reader
+pub mod Layer
+pub mod Promise
