@@ -142,5 +142,5 @@ module _ (size : ℕ) where
 pub engine-whole : EngineWhole
 engine-whole =
     whole-inside (λ m. m .tower) (over readerEngine sessionLayer) (tables built)
-      (layers-compose Reader Load Never Loaded Session Call Value Reply readerJudge (tables built) readerEngine sessionLayer reader-whole
-        (record { keeps = λ size h. keeps-above (readerJudge size) (tables built size) sessionLayer size (stands size); ends = λ size h. session-ends size }))
+    (layers-compose Reader Load Never Loaded Session Call Value Reply readerJudge (tables built) readerEngine sessionLayer reader-whole
+    (record { keeps = λ size h. keeps-above (readerJudge size) (tables built size) sessionLayer size (stands size); ends = λ size h. session-ends size }))

@@ -63,7 +63,7 @@ module _ (size : ℕ) where
   asks-for : (c : With Load) (vs : List (With Never)) (m n : Reader) (d : Device) (a : Ask Never Loaded) (s : ℕ) → s ≡ c .it .sector → Ready m d → AskedAt s m a n → Worked c vs n d a
   asks-for c vs m n d a s e h (k, inl (l, q, p)) =
       subst (Worked c vs n d) (sym q)
-        (record { ready = sized-on m n d k h; at = subst (λ x. BusyAt x (c .it) (shown d s)) (sym p) (omega (arith, e, h .sized, l), shown-calm d s (h .still .quiet s) ∙ h .still .kept s) })
+      (record { ready = sized-on m n d k h; at = subst (λ x. BusyAt x (c .it) (shown d s)) (sym p) (omega (arith, e, h .sized, l), shown-calm d s (h .still .quiet s) ∙ h .still .kept s) })
   asks-for c vs m n d a s e h (k, inr (l, q, p)) = subst (Worked c vs n d) (sym q) (tt, isOutside (c .it) (n .sector) (omega (arith, e, h .sized, l)), sized-on m n d k h)
 
   worked-at : (c : With Load) (vs : List (With Never)) (m n : Reader) (g : List ℕ) (d : Device) (a : Ask Never Loaded) (p : Phase) → Ready m d → BusyAt p (c .it) g → StepsAt p m g a n → Worked c vs n d a
