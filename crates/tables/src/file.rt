@@ -22,7 +22,7 @@ const GATHERED: usize = 65536;
 #[derive(Drop)]
 pub struct FileDisk {
     file: File,
-    sectors: u64,
+    len: u64,
     // sectors read ahead, and the first of them
     page: [u8; 4096],
     page_at: Option<u64>,
@@ -37,11 +37,9 @@ impl FileDisk {
         let file = OpenOptions::new().read(true).write(true).open(rt, path)?;
         let len = file.metadata()?.len();
         file.sync_data()?;
-        // a part of a sector makes it no device
-        let sectors = if len % 512 == 0 { len / 512 } else { 0 };
         Ok(FileDisk {
             file,
-            sectors,
+            len,
             page: [0; 4096],
             page_at: None,
             gathered: Vec::new(rt.alloc()),
@@ -49,8 +47,17 @@ impl FileDisk {
         })
     }
 
-    pub fn sectors(&self) -> u64 {
-        self.sectors
+    pub fn bytes(&self) -> u64 {
+        self.len
+    }
+
+    // How many sectors it has, if it has no part of one.
+    pub fn sectors(&self) -> Option<u64> {
+        if self.len % 512 == 0 {
+            Some(self.len / 512)
+        } else {
+            None
+        }
     }
 
     // Writes what was gathered.
@@ -68,7 +75,7 @@ impl FileDisk {
     // Reads the page of a sector, or as much of it as the device has.
     fn load(&mut self, first: u64) -> io::Result<()> {
         self.page_at = None;
-        let count = self.sectors.saturating_sub(first).min(AHEAD);
+        let count = (self.len / 512).saturating_sub(first).min(AHEAD);
         self.file.seek(SeekFrom::Start(first.saturating_mul(512)))?;
         read_some(&mut self.file, &mut self.page, count)?;
         self.page_at = Some(first);

@@ -98,19 +98,36 @@ fn serve(rt: &LibcRuntime, engine: Engine, disk: FileDisk) -> Result<(), Stop> {
     Ok(())
 }
 
-// The file that is named, or `device`.
+// One line on standard error, and how to make a device.
+fn refuse(rt: &LibcRuntime, path: &str, why: &str, e: io::Error) -> Result<(), io::Error> {
+    eprintln!(
+        rt,
+        "tables: {path}: {why}; a blank device is made by: truncate -s 64M NAME"
+    )?;
+    Err(e)
+}
+
+// The engine for a disk, if it is one: whole sectors, neither too few nor too many.
+fn engine_for(disk: &FileDisk) -> Option<Engine> {
+    match Engine::open(disk.sectors()?) {
+        Ok(engine) => Some(engine),
+        Err(_) => None,
+    }
+}
+
 fn run(rt: &LibcRuntime, path: &str) -> Result<(), io::Error> {
     let disk = match FileDisk::open(rt, path) {
         Ok(disk) => disk,
-        Err(e) => return refuse(rt, path, e),
+        Err(e) => return refuse(rt, path, format!(rt.alloc(), "{e}")?.as_str(), e),
     };
-    let sectors = disk.sectors();
-    let Ok(engine) = Engine::open(sectors) else {
-        eprintln!(
-            rt,
-            "tables: {path} has {sectors} whole sectors of 512 bytes, and a device has 4096 or more and no part of one: make one by 'truncate -s 64M {path}'"
+    let Some(engine) = engine_for(&disk) else {
+        let bytes = disk.bytes();
+        let why = format!(
+            rt.alloc(),
+            "{bytes} bytes are no device, which has a multiple of 512 and at least 2097152"
         )?;
-        return Err(io::Error::from(io::ErrorKind::InvalidData));
+        let e = io::Error::from(io::ErrorKind::InvalidData);
+        return refuse(rt, path, why.as_str(), e);
     };
     match serve(rt, engine, disk) {
         Ok(()) => Ok(()),
@@ -122,14 +139,7 @@ fn run(rt: &LibcRuntime, path: &str) -> Result<(), io::Error> {
     }
 }
 
-fn refuse(rt: &LibcRuntime, path: &str, e: io::Error) -> Result<(), io::Error> {
-    eprintln!(
-        rt,
-        "tables: {path}: {e}: make a blank device by 'truncate -s 64M {path}'"
-    )?;
-    Err(e)
-}
-
+// The file that is named, or `device`.
 fn main(rt: LibcRuntime) -> Result<(), io::Error> {
     let mut args = env::args(&rt)?;
     let _ = args.next();
