@@ -5,3 +5,4 @@ pub mod Grammar
 pub mod Meaning
 pub mod Doing
 pub mod Session
+pub mod Laws

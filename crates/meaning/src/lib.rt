@@ -1,4 +1,9 @@
 // What statements mean.
-pub fn nothing() -> u8 {
+ghost use Rattle.meaning.specs.Laws.{Ordered};
+
+// The order of values is one: no two are each below the other, below goes on, and what neither is below is the same.
+pub fn order_stands() -> u8
+    ensures { λ _. ⌜ Ordered ⌝ }
+{
     0
 }
