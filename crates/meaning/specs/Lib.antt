@@ -6,3 +6,4 @@ pub mod Meaning
 pub mod Doing
 pub mod Session
 pub mod Laws
+pub mod Cases
