@@ -1,16 +1,16 @@
 -- Tables stay sound whatever statement is done. Assumes nothing.
-use mathlib.Core.Path.{_≡_, refl, sym, ap, ap₂, subst, _∙_}
-use mathlib.Core.Logic.{_⊎_, inl, inr, ⊎-elim}
+use mathlib.Core.Path.{_≡_, refl, sym, ap, subst, _∙_}
+use mathlib.Core.Logic.{⊎-elim}
 use mathlib.Core.Bool.{Bool, true, false, cond, _&&_, _||_, not}
 use mathlib.Core.List.{List, [], _∷_, _++_, map}
-use Prim.Native.Nat.{ℕ, zero, suc, _+_, _≤_, _<_}
+use Prim.Native.Nat.{ℕ, suc, _+_, _≤_}
 use native.Mathlib.Omega.{arith}
-use lib.Dec.{T, eqb, ltb, leb}
-use lib.ListN.{length, length-append}
-use Rattle.std.proofs.shelf.Tests.{and-parts, and-from, cond-both, leb-true, leb-false, le-leb, ltb-true, ltb-false, lt-ltb, eqb-true, eq-eqb, or-parts, or-cases, or-left, or-right, not-true, not-false, not-from-false}
-use Rattle.meaning.specs.Value.{Value, isNull}
+use lib.Dec.{eqb, ltb, leb}
+use lib.ListN.{length}
+use Rattle.std.proofs.shelf.Tests.{and-parts, and-from, cond-both, le-leb, ltb-true, ltb-false, lt-ltb, eqb-true, or-parts, not-true, not-false, not-from-false}
+use Rattle.meaning.specs.Value.{Value}
 use Rattle.meaning.specs.Tree.{Name, Col, Statement, createTable, dropTable, createIndex, dropIndex, insert, insertFrom, update, delete, select, begin, commit, rollback, savepoint, rollbackTo, release, every}
-use Rattle.meaning.specs.Meaning.{Row, Table, Index, Db, blank, keep, some, sameName, findTable, hasTable, placeOf, hasCol, boundTo, answer}
+use Rattle.meaning.specs.Meaning.{Row, Table, Index, Db, keep, some, sameName, findTable, hasTable, placeOf, hasCol, boundTo, answer}
 use Rattle.meaning.specs.Doing.{Outcome, Refused, Changed, Rows, apart, rowWrong, rowsWrong, keyOf, keyWeight, apartAll, indexOk, uniqueOk, keysShort, setTable, numbered, added, withRows, withTable, unless, checked, longName, inserted, matches, matching, sourceOf, newValues, newRows, updated, does}
 use Rattle.meaning.specs.Laws.{rising, rowOk, tableOk, indexFits, Sound, StaysSound, BlankSound}
 use Rattle.meaning.proofs.Order.{clash, holds-true, true-holds}

@@ -3,16 +3,16 @@ use mathlib.Core.Path.{_≡_, refl, sym, ap, subst, _∙_}
 use mathlib.Core.Logic.{_⊎_, inl, inr, ⊎-elim}
 use mathlib.Core.Bool.{Bool, true, false, cond, _&&_, _||_, not}
 use mathlib.Core.List.{List, [], _∷_, _++_, map}
-use Prim.Native.Nat.{ℕ, zero, suc, _+_, _≤_, _<_}
+use Prim.Native.Nat.{ℕ, suc, _≤_, _<_}
 use native.Mathlib.Omega.{arith}
 use lib.Dec.{eqb, ltb, leb}
 use lib.ListN.{length}
-use Rattle.std.proofs.shelf.Tests.{and-parts, and-from, cond-both, cond-true, cond-false, leb-true, le-leb, ltb-true, lt-ltb, eqb-true, eq-eqb, or-parts, or-cases, or-left, or-right, not-true, not-from-false}
+use Rattle.std.proofs.shelf.Tests.{and-parts, and-from, cond-both, leb-true, le-leb, ltb-true, eq-eqb, or-cases, or-left, or-right, not-true, not-from-false}
 use Rattle.meaning.specs.Value.{Value, isNull}
 use Rattle.meaning.specs.Tree.{Name, Col, every}
-use Rattle.meaning.specs.Meaning.{Row, Table, noTable, keep, some, sameName, sameAll, findTable, placeOf, hasCol}
+use Rattle.meaning.specs.Meaning.{Row, Table, keep, some, sameName, sameAll, findTable, placeOf, hasCol}
 use Rattle.meaning.specs.Doing.{rowWrong, rowsWrong, apartAll, setTable, numbered}
-use Rattle.meaning.specs.Laws.{rising, rowOk}
+use Rattle.meaning.specs.Laws.{rising}
 use Rattle.meaning.proofs.Order.{clash}
 use Rattle.meaning.proofs.Lists.{name-eq, none-keep, some-map}
 

@@ -1,14 +1,16 @@
--- What holds of every meaning: the order of values is one, and tables stay sound whatever is done.
+-- What holds of the definitions: the order of values is one, and tables stay sound whatever is done.
 use mathlib.Core.Path.{_≡_}
 use mathlib.Core.Bool.{Bool, true, _&&_, not}
 use mathlib.Core.List.{List, [], _∷_, map}
 use Prim.Native.Nat.{ℕ, suc}
 use lib.Dec.{T, eqb, ltb, leb}
 use lib.ListN.{length}
+use Rattle.std.specs.shelf.Lists.{All}
 use Rattle.meaning.specs.Value.{Value, less, same}
 use Rattle.meaning.specs.Tree.{Col, Statement, every}
 use Rattle.meaning.specs.Meaning.{Row, Table, Index, Db, blank, findTable, hasTable}
 use Rattle.meaning.specs.Doing.{apart, rowWrong, uniqueOk, keysShort, longName, Changed, does}
+use Rattle.meaning.specs.Session.{Call, Reply, Mark, Connection, Answers}
 
 -- no two values are each below the other, below goes on, and values of which neither is below are one
 abbrev pub Ordered : Type 0
@@ -51,3 +53,13 @@ StaysSound = (s : Statement) (db to : Db) (n : ℕ) → Sound db → does s db �
 -- no tables at all are sound
 abbrev pub BlankSound : Type 0
 BlankSound = Sound blank
+
+-- a connection to sound tables: as committed, as they are, and at each savepoint
+pub record SoundConnection (c : Connection) : Type 0 where
+  pub base : Sound (c .base)
+  pub now : Sound (c .now)
+  pub marks : All (λ (m : Mark). Sound (m .db)) (c .marks)
+
+-- whatever a call may answer leaves them sound
+abbrev pub ConnectionStaysSound : Type 0
+ConnectionStaysSound = (can : Statement → Bool) (size : ℕ) (k : Call) (c d : Connection) (r : Reply) → SoundConnection c → Answers can size k c r d → SoundConnection d
