@@ -28,6 +28,7 @@ pub data Plays : List Step → Connection → Type 0 where
   numbers : {t : String} {ns : List ℕ} {c : Connection} {ss : List Step} → map (λ (r : Row). r .num) (findTable (codes t) (c .now .tables) .rows) ≡ ns → Plays ss c → Plays (Numbers t ns ∷ ss) c
   stands : {c : Connection} {ss : List Step} → Plays ss c → Plays (Stands c ∷ ss) c
 
+-- the values of a number and of a text
 abbrev pub num : ℕ → Value
 num n = Num (pos n)
 
@@ -46,10 +47,12 @@ two = fresh (record {
   indexes = [];
 })
 
+-- where a case starts, and its steps
 pub record Case : Type 0 where
   pub start : Connection
   pub steps : List Step
 
+-- the cases; all but the first start where the first ends
 abbrev pub cases : List Case
 cases =
     -- a table is made; of rows that are wrong none is inserted; a query gives its rows and ends
@@ -76,7 +79,7 @@ cases =
           Says "insert into t values (3, 'it''s')" (Done 1) ∷ Says "select b from t where a = 3" Begun ∷ Asks (Gives (Text (105 ∷ 116 ∷ 39 ∷ 115 ∷ []) ∷ [])) ∷ Asks End ∷
           Says "select a1b from t" (No 3) ∷ Says "select 1b from t" (No 1) ∷ [];
     } ∷
-    -- values may pass through one another, whether they must be apart
+    -- an update may pass through values that are there, where each is allowed once too
     record { start = two; steps = Says "update t set a = a + 1" (Done 2) ∷ [] } ∷
     record { start = two; steps = Says "create unique index i on t (a)" (Done 0) ∷ Says "update t set a = a + 1" (Done 2) ∷ [] } ∷
     -- without group by there is one group of no rows, with it none
