@@ -5,3 +5,5 @@ pub mod Grammar
 pub mod Meaning
 pub mod Doing
 pub mod Session
+pub mod Laws
+pub mod Cases
