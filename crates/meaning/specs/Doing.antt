@@ -18,10 +18,6 @@ apart (n ∷ ns) = not (some (sameName n) ns) && apart ns
 abbrev pub sourcesOk : Db → List Source → Bool
 sourcesOk db from = leb (length from) 8 && every (λ (s : Source). hasTable (s .table) db) from && apart (map (λ (s : Source). s .alias) from)
 
-unfoldable pub width : Exprs → ℕ
-width none = 0
-width (more e es) = suc (width es)
-
 unfoldable mutual
   pub known : Expr → Db → List Scope → (may : Bool) → Bool
   known (lit v) db env may = true

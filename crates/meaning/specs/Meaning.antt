@@ -1,4 +1,4 @@
--- Tables, and what queries answer: the rows, in their order. No plan, page or index is in here.
+-- Tables, and what queries answer: the rows, in their order. No plan or page is in here, and no query looks at an index.
 use mathlib.Core.Bool.{Bool, true, false, cond, _&&_, _||_, not}
 use mathlib.Core.List.{List, [], _∷_, _++_, map}
 use Prim.Native.Nat.{ℕ, zero, suc, _+_, _*_}
