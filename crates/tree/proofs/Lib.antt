@@ -1,0 +1,16 @@
+pub mod Order
+pub mod Joins
+pub mod Window
+pub mod Bound
+pub mod Facts
+pub mod Edits
+pub mod Cuts
+pub mod Spread
+pub mod Rise
+pub mod Look
+pub mod Down
+pub mod Change
+pub mod Whole
+pub mod Replace
+pub mod Bytes
+pub mod Witness
