@@ -3,10 +3,10 @@ use mathlib.Core.Path.{_≡_, refl, sym, ap, _∙_}
 use mathlib.Core.List.{List, [], _∷_, _++_}
 use Prim.Native.Nat.{ℕ, zero, suc, _+_, _-_, _*_, _/_, _%_, _<_, _≤_}
 use native.Mathlib.Omega.{arith}
-use lib.ListN.{length, getD, take, drop}
+use lib.ListN.{length, getD, take, drop, replicate}
 use borrow.Author.Needs.{needs}
 use borrow.Rule.Slice.PartMut.{putMid}
-use Rattle.std.proofs.shelf.Lists.{drop-drop, same-lists, places}
+use Rattle.std.proofs.shelf.Lists.{drop-drop, same-lists, places, getD-default}
 use Rattle.bytes.specs.Parts.{part, put, pair, pairOf}
 
 -- a write to `s[a..a + k]`
@@ -68,3 +68,26 @@ part-rest xs at n m h p = same-lists _ _ (search (needs, places)) (λ k d l. gri
 
 pub part-front : (xs : List ℕ) (at n m : ℕ) → n ≤ m → take n (take m (drop at xs)) ≡ part xs at n
 part-front xs at n m h = same-lists _ _ (search (needs, places)) (λ k d l. grind (arith, places))
+
+-- a byte of a part
+pub at-part : (xs : List ℕ) (a n k : ℕ) → k < n → getD (part xs a n) k 0 ≡ getD xs (a + k) 0
+at-part xs a n k h = grind (arith, places)
+
+-- parts by their bytes
+pub part-from : (xs ys : List ℕ) (a : ℕ) → a + length ys ≤ length xs → ((k : ℕ) → k < length ys → getD xs (a + k) 0 ≡ getD ys k 0) → part xs a (length ys) ≡ ys
+part-from xs ys a h f =
+    same-lists _ _ (length-part xs a (length ys) h)
+    (λ k d l. let m : k < length ys = omega (arith, length-part xs a (length ys) h, l) in
+    getD-default (part xs a (length ys)) k d 0 l ∙ at-part xs a (length ys) k m ∙ f k m ∙ getD-default ys k 0 d m)
+
+pub part-agrees : (xs ys : List ℕ) (a n : ℕ) → length xs ≡ length ys → a + n ≤ length xs → ((x : ℕ) → a ≤ x → x < a + n → getD xs x 0 ≡ getD ys x 0) → part xs a n ≡ part ys a n
+part-agrees xs ys a n e h f =
+    same-lists _ _ (length-part xs a n h ∙ sym (length-part ys a n (omega (arith, e))))
+    (λ k d l. let m : k < n = omega (arith, length-part xs a n h, l) in
+    getD-default (part xs a n) k d 0 l ∙ at-part xs a n k m ∙ f (a + k) (omega arith) (omega arith) ∙ sym (at-part ys a n k m)
+    ∙ getD-default (part ys a n) k 0 d (omega (arith, length-part ys a n (omega (arith, e)))))
+
+pub zeros-at : (n k : ℕ) → _≡_ {A = ℕ} (getD (replicate n 0) k 0) 0
+zeros-at zero k = refl
+zeros-at (suc n) zero = refl
+zeros-at (suc n) (suc k) = zeros-at n k

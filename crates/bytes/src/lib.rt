@@ -1,8 +1,9 @@
-// Bytes in lent memory: parts of them, writes to a part, and numbers of two bytes. Each write is an equation with `put`, so
+// Bytes in lent memory: their order, parts of them, writes to a part, and numbers of two bytes. Each write is an equation with `put`, so
 // that what it leaves unchanged is known; the laws of `part` and `put` stand in proofs/Parts.antt, for all crates above.
 ghost use mathlib.Core.Path.{_≡_};
 ghost use Prim.Native.Nat.{ℕ, _+_, _<_, _≤_};
-ghost use lib.ListN.{length};
+ghost use lib.ListN.{length, replicate};
+ghost use Rattle.meaning.specs.Value.{lessBytes};
 ghost use Rattle.bytes.specs.Parts.{part, put, pair, pairOf};
 
 // At most so many bytes from a place on; fewer where the slice ends.
@@ -44,4 +45,18 @@ pub fn put_pair(out: &mut [u8], at: usize, number: usize)
 {
     let bytes = [(number / 256) as u8, (number % 256) as u8];
     copy_in(out, at, &bytes);
+}
+
+// Zeros all over.
+pub fn fill_zero(out: &mut [u8])
+    ensures { λ _. ⌜ now (out .exit) ≡ replicate (length (now (out .entry))) 0 ⌝ }
+{
+    out.fill(0);
+}
+
+// The order of texts and keys: by bytes, a beginning first.
+pub fn less(a: &[u8], b: &[u8]) -> bool
+    ensures { λ r. ⌜ r ≡ lessBytes (now (a .entry)) (now (b .entry)) ⌝ }
+{
+    a < b
 }

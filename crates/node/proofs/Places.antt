@@ -6,6 +6,9 @@ use Prim.Native.Nat.{ℕ, zero, suc, _+_, _-_, _*_, _<_, _≤_}
 use native.Mathlib.Omega.{arith}
 use native.Mathlib.Numerals.{add-one}
 use lib.ListN.{length}
+use lib.Dec.{eqb}
+use mathlib.Core.Bool.{false}
+use borrow.Author.Tests.{ne-eqb}
 use Rattle.node.specs.Node.{countIn, startOf, keyLen, keyAt, valueAt, Formed}
 use Rattle.bytes.specs.Parts.{part, pair}
 
@@ -21,6 +24,10 @@ starts-rise page n h i (suc d) l =
 pub start-first : (page : List ℕ) → startOf page 0 ≡ 8
 unfolding startOf
 start-first page = refl
+
+pub start-later : (page : List ℕ) (i : ℕ) → 0 < i → startOf page i ≡ pair page (4096 - 2 * i)
+unfolding startOf
+start-later page i h = let e : eqb i 0 ≡ false = ne-eqb i 0 (λ z. omega arith) in rw e
 
 -- so a page has few entries, and each begins within it
 pub record Placed (page : List ℕ) (i : ℕ) : Type 0 where

@@ -3,9 +3,9 @@
 use mathlib.Core.Path.{_≡_}
 use mathlib.Core.Bool.{Bool, true, false, cond}
 use mathlib.Core.List.{List, [], _∷_, _++_}
-use Prim.Native.Nat.{ℕ, zero, suc, _+_, _-_, _*_, _<_, _≤_}
+use Prim.Native.Nat.{ℕ, zero, suc, min, _+_, _-_, _*_, _<_, _≤_}
 use lib.Dec.{eqb}
-use lib.ListN.{length}
+use lib.ListN.{length, getD}
 use Rattle.bytes.specs.Parts.{part, pair}
 use Rattle.meaning.specs.Value.{lessBytes}
 use Rattle.tree.specs.Entries.{Entry}
@@ -45,7 +45,44 @@ pub record Formed (page : List ℕ) (n : ℕ) : Type 0 where
   pub inOrder : (i : ℕ) → i < n → startOf page i + (2 + keyLen page i) ≤ startOf page (i + 1)
   pub apart : startOf page n + 2 * n ≤ 4096
 
--- how many keys are below one, in a list whose keys rise
-unfoldable pub countUnder : List ℕ → List Entry → ℕ
-countUnder k [] = 0
-countUnder k (x ∷ xs) = cond (lessBytes (x .key) k) (suc (countUnder k xs)) 0
+-- the keys of the first n entries rise
+abbrev pub Sorted : List ℕ → ℕ → Type 0
+Sorted page n = (i j : ℕ) → i < j → j < n → lessBytes (keyAt page i) (keyAt page j) ≡ true
+
+-- the first r keys are below k, and the others are not
+pub record Parted (page k : List ℕ) (n r : ℕ) : Type 0 where
+  pub few : r ≤ n
+  pub under : (i : ℕ) → i < r → lessBytes (keyAt page i) k ≡ true
+  pub from : (i : ℕ) → r ≤ i → i < n → lessBytes (keyAt page i) k ≡ false
+
+-- how many bytes the first n entries take, with the places of their ends
+abbrev pub usedBy : List ℕ → ℕ → ℕ
+usedBy page n = startOf page n - 8 + 2 * n
+
+-- a page to which an entry was added
+pub record Added (page : List ℕ) (key value next : List ℕ) : Type 0 where
+  pub formed : Formed next (countIn next)
+  pub entries : entriesIn next ≡ entriesIn page ++ (record { key = key; value = value } ∷ [])
+  pub level : getD next 0 0 ≡ getD page 0 0
+
+-- what adding an entry answers: it is added where the page has room for it, and else nothing changes
+abbrev pub Pushed : List ℕ → List ℕ → List ℕ → Bool → List ℕ → Type 0
+Pushed page key value true next = (usedBy page (countIn page) + (4 + (length key + length value)) ≤ 4088) × Added page key value next
+Pushed page key value false next = (4088 < usedBy page (countIn page) + (4 + (length key + length value))) × (next ≡ page)
+
+pub record Cleared (level : ℕ) (page : List ℕ) : Type 0 where
+  pub formed : Formed page (countIn page)
+  pub none : countIn page ≡ 0
+  pub marked : getD page 0 0 ≡ min (level + 1) 255
+
+-- an entry was written behind the first n, which begin at 8 and end at `at`: bytes before it and the ends above it stay
+pub record Written (page : List ℕ) (n at : ℕ) (key value next : List ℕ) : Type 0 where
+  pub long : length next ≡ 4096
+  pub front : getD next 0 0 ≡ getD page 0 0
+  pub low : (x : ℕ) → 4 ≤ x → x < at → getD next x 0 ≡ getD page x 0
+  pub high : (x : ℕ) → 4096 ≤ x + 2 * n → getD next x 0 ≡ getD page x 0
+  pub keyed : pair next at ≡ length key
+  pub keyIs : part next (at + 2) (length key) ≡ key
+  pub valueIs : part next (at + (2 + length key)) (length value) ≡ value
+  pub end : pair next (4096 - 2 * (n + 1)) ≡ at + (2 + (length key + length value))
+  pub counted : pair next 2 ≡ n + 1

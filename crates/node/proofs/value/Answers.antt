@@ -14,4 +14,4 @@ returns c = λ n h l.
     let j : c .saturating-add .result ≡ c .args .i + 1 = omega (arith, c .saturating-add .ensures) in
     let e : c .start-of-end .result ≡ startOf (c .args .page .now) (c .saturating-add .result) = c .start-of-end .ensures .is (omega arith) in
     value-is (c .args .page .now) (c .part-of .result .now) (c .args .i) (c .start-of-start .result) (c .key-len .result) (c .start-of-end .result) _ (c .saturating-sub .result)
-      s (k ∙ ap (pair (c .args .page .now)) s) (e ∙ ap (startOf (c .args .page .now)) j) refl (c .saturating-sub .ensures) (c .part-of .ensures)
+    s (k ∙ ap (pair (c .args .page .now)) s) (e ∙ ap (startOf (c .args .page .now)) j) refl (c .saturating-sub .ensures) (c .part-of .ensures)
