@@ -2,7 +2,7 @@
 use mathlib.Core.Path.{_≡_, refl, sym, _∙_, ap, subst}
 use mathlib.Core.Bool.{Bool, true, false, cond}
 use mathlib.Core.List.{List, [], _∷_, _++_, List·Memᴰ, List·Memᴰ·head, List·Memᴰ·tail}
-use Prim.Native.Nat.{ℕ, zero, suc, _+_, _<_, _≤_}
+use Prim.Native.Nat.{ℕ, zero, suc, _+_, _-_, _<_, _≤_}
 use lib.Dec.{eqb}
 use mathlib.Core.Logic.{_⊎_, inl, inr}
 use native.Mathlib.Omega.{arith}
@@ -10,9 +10,9 @@ use borrow.Author.Tests.{eq-eqb, ne-eqb}
 use Rattle.std.proofs.shelf.Tests.{cases-eq, cases-lt}
 use lib.Seq.{getD-set-same, getD-set-other}
 use lib.ListN.{length, take, getD, set, length-set, replicate}
-use Rattle.std.proofs.shelf.Lists.{take-more}
+use Rattle.std.proofs.shelf.Lists.{take-more, getD-default}
 use Rattle.device.specs.Device.{latest, zeros}
-use Rattle.device.specs.Vector.{sinceOf, Kept, Perhaps, Blanks}
+use Rattle.device.specs.Vector.{sinceOf, Newest, Kept, Perhaps, Blanks}
 use Rattle.device.specs.declared.vector.Written.{Written}
 
 cond-append : (b : Bool) (x : List ℕ) (a c : List (List ℕ)) → cond b (x ∷ a) a ++ c ≡ cond b (x ∷ (a ++ c)) (a ++ c)
@@ -64,9 +64,6 @@ module _ (xs₀ : List (List ℕ)) (ws : List Written) (i : ℕ) (w : Written) (
   latest-more s f q =
       ap (cond (eqb s (w .sector)) (w .bytes)) q ∙ sym (latest-cond (eqb s (w .sector)) (getD xs₀ s []) (w .bytes) (sinceOf s (take i ws))) ∙ ap (latest (getD xs₀ s [])) (sym (since-more s ws i w h e))
 
-  pub found-more : (s : ℕ) (f g : List ℕ) → f ≡ latest (getD xs₀ s []) (sinceOf s (take i ws)) → g ≡ cond (eqb s (w .sector)) (w .bytes) f → g ≡ latest (getD xs₀ s []) (sinceOf s (take (i + 1) ws))
-  found-more s f g q z = z ∙ latest-more s f q
-
   pub kept-more : (xs ys : List (List ℕ)) → Kept xs w ys → ((s : ℕ) → s < length xs → getD xs s [] ≡ latest (getD xs₀ s []) (sinceOf s (take i ws))) →
       (s : ℕ) → s < length ys → getD ys s [] ≡ latest (getD xs₀ s []) (sinceOf s (take (i + 1) ws))
   kept-more xs ys k ih s l = let l' : s < length xs = omega (arith, k .long) in k .items s l' ∙ latest-more s (getD xs s []) (ih s l')
@@ -114,3 +111,21 @@ past (x ∷ xs) (suc s) h = past xs s (omega arith)
 pub each-all : (xs ys : List (List ℕ)) (ws : List Written) → length ys ≡ length xs → ((s : ℕ) → s < length ys → (getD ys s [] ≡ getD xs s []) ⊎ List·Memᴰ (getD ys s []) (sinceOf s ws)) →
     (s : ℕ) → (getD ys s [] ≡ getD xs s []) ⊎ List·Memᴰ (getD ys s []) (sinceOf s ws)
 each-all xs ys ws e f s = elim (cases-lt s (length ys)) [ inl h ↦ f s h | inr h ↦ inl (past ys s h ∙ sym (past xs s (omega (arith, e, h)))) ]
+
+-- LOOKING FOR THE LAST WRITE TO A SECTOR
+module _ (s : ℕ) (ws : List Written) (at : ℕ) (w : Written) (h : 0 < at) (l : at ≤ length ws) (e : w ≡ getD ws (at - 1) w) where
+  up-to : sinceOf s (take at ws) ≡ cond (eqb s (w .sector)) (w .bytes ∷ sinceOf s (take (at - 1) ws)) (sinceOf s (take (at - 1) ws))
+  up-to = let z : at - 1 + 1 ≡ at = omega arith in subst (λ k. sinceOf s (take k ws) ≡ cond (eqb s (w .sector)) (w .bytes ∷ sinceOf s (take (at - 1) ws)) (sinceOf s (take (at - 1) ws))) z (since-more s ws (at - 1) w (omega arith) e)
+
+  pub passed-by : (w .sector ≡ s → ⊥) → sinceOf s (take at ws) ≡ sinceOf s ws → sinceOf s (take (at - 1) ws) ≡ sinceOf s ws
+  passed-by n q = sym (up-to ∙ rw (ne-eqb s (w .sector) (λ z. n (sym z))) refl) ∙ q
+
+  pub newest-at : w .sector ≡ s → sinceOf s (take at ws) ≡ sinceOf s ws → Newest s ws at
+  newest-at n q =
+      record {
+        few = l;
+        none = λ z. absurd (omega arith);
+        last = λ v p d.
+            let same : v ≡ w = d ∙ getD-default ws (at - 1) v w (omega arith) ∙ sym e in
+            subst (λ x. sinceOf s ws ≡ x .bytes ∷ sinceOf s (take (at - 1) ws)) (sym same) (sym q ∙ up-to ∙ rw (eq-eqb s (w .sector) (sym n)) refl);
+      }

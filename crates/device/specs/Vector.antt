@@ -3,9 +3,9 @@ use mathlib.Core.Path.{_≡_}
 use mathlib.Core.Logic.{_⊎_}
 use mathlib.Core.Bool.{Bool, true, false, cond}
 use mathlib.Core.List.{List, [], _∷_, _++_}
-use Prim.Native.Nat.{ℕ, _<_}
+use Prim.Native.Nat.{ℕ, _-_, _<_, _≤_}
 use lib.Dec.{eqb}
-use lib.ListN.{getD, length, replicate}
+use lib.ListN.{getD, length, take, replicate}
 use Rattle.std.specs.Of.Vec.{vec-len, vec-items}
 use Rattle.device.specs.Device.{Device, zeros, shown}
 use Rattle.device.specs.declared.vector.Written.{Written}
@@ -15,6 +15,12 @@ use Rattle.device.specs.declared.vector.Vector.{Vector}
 abbrev pub sinceOf : ℕ → List Written → List (List ℕ)
 sinceOf s [] = []
 sinceOf s (w ∷ ws) = sinceOf s ws ++ cond (eqb s (w .sector)) (w .bytes ∷ []) []
+
+-- the first r writes have the last one to a sector at their end, or there is none
+pub record Newest (s : ℕ) (ws : List Written) (r : ℕ) : Type 0 where
+  pub few : r ≤ length ws
+  pub none : r ≡ 0 → sinceOf s ws ≡ []
+  pub last : (w : Written) → 0 < r → w ≡ getD ws (r - 1) w → sinceOf s ws ≡ w .bytes ∷ sinceOf s (take (r - 1) ws)
 
 -- a write is kept, if its sector is there
 pub record Kept (xs : List (List ℕ)) (w : Written) (ys : List (List ℕ)) : Type 0 where

@@ -5,9 +5,7 @@ ghost use Prim.Native.Nat.{ℕ, _<_};
 ghost use Rattle.std.specs.Of.Vec.{vec-len, vec-items};
 ghost use Rattle.std.specs.Vec.{made};
 ghost use Rattle.device.specs.Device.{shown, written, synced, AfterCut};
-ghost use mathlib.Core.Bool.{cond};
-ghost use lib.Dec.{eqb};
-ghost use Rattle.device.specs.Vector.{deviceOf, Agrees, Blank, Kept, Perhaps};
+ghost use Rattle.device.specs.Vector.{deviceOf, Agrees, Blank, Kept, Perhaps, Newest};
 use std::alloc::AllocError;
 use std::alloc::Global;
 
@@ -23,11 +21,19 @@ pub struct Vector {
     since: Vec<Written>,
 }
 
-// What a sector shows after a write.
-fn pick(w: Written, sector: usize, found: [u8; 512]) -> [u8; 512]
-    ensures { λ r. ⌜ r ≡ cond (eqb sector (w .sector)) (w .bytes) found ⌝ }
+// How many writes there are up to the last one to a sector; 0 where there is none.
+fn newest(since: &Vec<Written>, sector: usize) -> usize
+    ensures { λ r. ⌜ Newest sector (vec-items (now (since .entry))) r ⌝ }
 {
-    if sector == w.sector { w.bytes } else { found }
+    let mut at = since.len();
+    while at > 0 {
+        let w = &since[at - 1];
+        if w.sector == sector {
+            return at;
+        }
+        at -= 1;
+    }
+    0
 }
 
 // Keeps a write to a sector that is there.
@@ -69,16 +75,15 @@ impl Vector {
     pub fn read(&self, sector: usize) -> [u8; 512]
         ensures { λ r. ⌜ (sector < vec-len (now (self .entry) .kept) → r ≡ shown (deviceOf (now (self .entry))) sector) ⌝ }
     {
-        let mut found = [0; 512];
+        let at = newest(&self.since, sector);
+        if at > 0 && at <= self.since.len() {
+            let w = self.since[at - 1];
+            return w.bytes;
+        }
         if sector < self.kept.len() {
-            found = self.kept[sector];
+            return self.kept[sector];
         }
-        for i in 0..self.since.len() {
-            let w = self.since[i];
-            let next = pick(w, sector, found);
-            found = next;
-        }
-        found
+        [0; 512]
     }
 
     pub fn write(&mut self, sector: usize, bytes: &[u8; 512]) -> Result<(), AllocError>
