@@ -1,3 +1,5 @@
 pub mod Places
 pub mod Adding
 pub mod Halving
+pub mod Weights
+pub mod Making

@@ -12,6 +12,8 @@ use bytes::pair_at;
 use bytes::part_of;
 use bytes::put_pair;
 
+pub mod joiner;
+
 // Bytes of a page, and where its entries begin.
 pub const PAGE: usize = 4096;
 

@@ -1,0 +1,41 @@
+-- Pages of a level as they are made anew.
+use mathlib.Core.Path.{_≡_}
+use mathlib.Core.Bool.{Bool, true, false, cond}
+use mathlib.Core.List.{List, [], _∷_, _++_}
+use Prim.Native.Nat.{ℕ, zero, suc, _+_, _-_, _<_, _≤_}
+use lib.Dec.{leb}
+use lib.ListN.{length, getD}
+use Rattle.std.specs.Of.Vec.{vec-len, vec-items}
+use Rattle.tree.specs.Entries.{Entry}
+use Rattle.tree.specs.Pages.{Page, weigh}
+use Rattle.node.specs.Node.{countIn, entriesIn, Formed}
+use Rattle.node.specs.declared.joiner.Joiner.{Joiner}
+
+-- the first n pages, by their entries
+unfoldable pub pagesTo : List (List ℕ) → ℕ → List Page
+pagesTo ps zero = []
+pagesTo ps (suc n) = pagesTo ps n ++ (entriesIn (getD ps n []) ∷ [])
+
+abbrev pub pagesOf : Joiner → List Page
+pagesOf j = pagesTo (vec-items (j .pages)) (j .len)
+
+-- its pages are formed
+abbrev pub Sound : Joiner → Type 0
+Sound j = (i : ℕ) → i < j .len → Formed (getD (vec-items (j .pages)) i []) (countIn (getD (vec-items (j .pages)) i []))
+
+-- an entry at the end of the last page
+unfoldable pub onLast : Entry → List Page → List Page
+onLast e [] = []
+onLast e (p ∷ []) = (p ++ (e ∷ [])) ∷ []
+onLast e (p ∷ q ∷ qs) = p ∷ onLast e (q ∷ qs)
+
+-- a unit joined to the last page where it has room, and else a page of its own
+unfoldable pub joinOn : (Entry → ℕ) → ℕ → Page → List Page → List Page
+joinOn w cap q [] = q ∷ []
+joinOn w cap q (p ∷ []) = cond (leb (weigh w p + weigh w q) cap) ((p ++ q) ∷ []) (p ∷ q ∷ [])
+joinOn w cap q (p ∷ r ∷ ps) = p ∷ joinOn w cap q (r ∷ ps)
+
+-- one page more, without entries; or there is no place for one
+abbrev pub OpenedBy : Joiner → Bool → Joiner → Type 0
+OpenedBy j true k = Sound k × (pagesOf k ≡ pagesOf j ++ ([] ∷ []))
+OpenedBy j false k = (j .len ≡ 24) × (k ≡ j)

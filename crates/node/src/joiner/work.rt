@@ -1,0 +1,48 @@
+// What is done with the pages of a joiner.
+ghost use mathlib.Core.Path.{_≡_};
+ghost use mathlib.Core.List.{[]};
+ghost use Rattle.std.specs.Vec.{made};
+ghost use Rattle.node.specs.Joiner.{pagesOf, Sound, OpenedBy};
+use crate::clear;
+use crate::joiner::Joiner;
+use crate::joiner::MOST;
+use std::alloc::AllocError;
+use std::alloc::Global;
+
+impl Joiner {
+    // All its memory is taken here.
+    pub fn new(heap: Global) -> Result<Joiner, AllocError>
+        ensures { λ r. ⌜ made r (λ j. Sound j × (pagesOf j ≡ [])) ⌝ }
+    {
+        let mut pages = Vec::new(heap);
+        for _ in 0..MOST {
+            pages.push([0; 4096])?;
+        }
+        Ok(Joiner {
+            pages,
+            len: 0,
+            level: 0,
+        })
+    }
+
+    // No pages, of another level.
+    pub fn begin(&mut self, level: u8)
+        ensures { λ _. ⌜ (Sound (now (self .entry)) → Sound (now (self .exit)) × (pagesOf (now (self .exit)) ≡ [])) ⌝ }
+    {
+        self.level = level;
+        self.len = 0;
+    }
+
+    // One page more, without entries; false where there is no place for one.
+    fn open(&mut self) -> bool
+        ensures { λ r. ⌜ (Sound (now (self .entry)) → OpenedBy (now (self .entry)) r (now (self .exit))) ⌝ }
+    {
+        let at = self.len;
+        if at >= self.pages.len() {
+            return false;
+        }
+        clear(&mut self.pages[at], self.level);
+        self.len = at + 1;
+        true
+    }
+}
