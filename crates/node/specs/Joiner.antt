@@ -39,3 +39,7 @@ joinOn w cap q (p ∷ r ∷ ps) = p ∷ joinOn w cap q (r ∷ ps)
 abbrev pub OpenedBy : Joiner → Bool → Joiner → Type 0
 OpenedBy j true k = Sound k × (pagesOf k ≡ pagesOf j ++ ([] ∷ []))
 OpenedBy j false k = (j .len ≡ 24) × (k ≡ j)
+
+-- an entry behind the last page's, where that has room for it
+abbrev pub PushedBy : Joiner → Entry → Bool → Joiner → Type 0
+PushedBy j e r k = Sound k × (pagesOf k ≡ cond r (onLast e (pagesOf j)) (pagesOf j))

@@ -4,6 +4,8 @@ ghost use mathlib.Core.Path.{_≡_};
 ghost use Prim.Native.Nat.{ℕ, _+_, _*_, _<_, _≤_};
 ghost use lib.ListN.{length};
 ghost use Rattle.bytes.specs.Parts.{pair};
+ghost use Rattle.tree.specs.Bytes.{taken};
+ghost use Rattle.tree.specs.Pages.{weigh};
 ghost use Rattle.node.specs.Node.{countIn, startOf, keyAt, valueAt, entryAt, entriesIn, Formed, Sorted, Parted, Cleared, Written, Pushed};
 use bytes::copy_in;
 use bytes::fill_zero;
@@ -84,6 +86,15 @@ pub fn under(page: &[u8; 4096], wanted: &[u8]) -> usize
         }
     }
     low
+}
+
+// How many bytes the entries of a page take.
+pub fn used(page: &[u8; 4096]) -> usize
+    ensures { λ r. ⌜ (Formed (now (page .entry)) (countIn (now (page .entry))) → r ≡ weigh taken (entriesIn (now (page .entry)))) ⌝ }
+{
+    let n = count(page);
+    let end = start_of(page, n);
+    end.saturating_sub(FIRST) + 2 * n
 }
 
 // A node of a level, with no entries.

@@ -2,10 +2,11 @@
 ghost use mathlib.Core.Path.{_≡_};
 ghost use mathlib.Core.List.{[]};
 ghost use Rattle.std.specs.Vec.{made};
-ghost use Rattle.node.specs.Joiner.{pagesOf, Sound, OpenedBy};
+ghost use Rattle.node.specs.Joiner.{pagesOf, Sound, OpenedBy, PushedBy};
 use crate::clear;
 use crate::joiner::Joiner;
 use crate::joiner::MOST;
+use crate::push;
 use std::alloc::AllocError;
 use std::alloc::Global;
 
@@ -44,5 +45,16 @@ impl Joiner {
         clear(&mut self.pages[at], self.level);
         self.len = at + 1;
         true
+    }
+
+    // An entry behind the last page's; false where that has no room for it, or there is no page.
+    fn push_on(&mut self, key: &[u8], value: &[u8]) -> bool
+        ensures { λ r. ⌜ (Sound (now (self .entry)) → PushedBy (now (self .entry)) (record { key = now (key .entry); value = now (value .entry) }) r (now (self .exit))) ⌝ }
+    {
+        let len = self.len;
+        if len == 0 || len > self.pages.len() {
+            return false;
+        }
+        push(&mut self.pages[len - 1], key, value)
     }
 }

@@ -1,0 +1,20 @@
+use mathlib.Core.Path.{_≡_, sym, subst, _∙_}
+use mathlib.Core.List.{[]}
+use Prim.Native.Nat.{_-_, _<_, _≤_}
+use native.Mathlib.Omega.{arith}
+use lib.ListN.{length, getD}
+use Rattle.std.specs.Of.Vec.{vec-items}
+use Rattle.std.proofs.shelf.Lists.{getD-default}
+use Rattle.node.specs.Node.{countIn, Formed}
+use Rattle.node.proofs.Making.{pushed-on, formed-page}
+use Rattle.node.proofs.joiner.Joiner.push_on.Needs as need
+
+pub returns : need.returns
+returns c = λ s.
+    let ps = vec-items (c .args .self .now .pages) in
+    let len = c .args .self .now .len in
+    let some : 0 < len = omega (arith, c .if-len-eq0 .left) in
+    let there : len ≤ length ps = omega (arith, c .args .self .now .pages .ok .0, c .len .ensures, c .if-len .left) in
+    let is : c .index-mut .result .now ≡ getD ps (len - 1) [] = c .index-mut .ensures .value ∙ getD-default ps (len - 1) (c .index-mut .result .now) [] (omega arith) in
+    pushed-on ps len (c .args .key .now) (c .args .value .now) (c .index-mut .result .now) (c .push .last .page) some there is s (c .push .result)
+      (c .push .ensures (formed-page ps len (c .args .key .now) (c .args .value .now) (c .index-mut .result .now) (c .push .last .page) some there is s))
