@@ -6,13 +6,17 @@ use mathlib.Core.List.{List, [], _∷_, _++_}
 use Prim.Native.Nat.{ℕ, zero, suc, _+_, _-_, _<_, _≤_}
 use native.Mathlib.Omega.{arith}
 use native.Mathlib.Numerals.{add-one}
+use lib.Dec.{ltb, leb}
 use lib.ListN.{length, getD, set}
 use lib.Seq.{getD-set-same, getD-set-other}
-use Rattle.std.proofs.shelf.Tests.{cases-lt}
+use Rattle.std.proofs.shelf.Tests.{cases-lt, lt-ltb, le-ltb, le-leb, lt-leb}
 use Rattle.tree.specs.Entries.{Entry}
-use Rattle.tree.specs.Pages.{Page}
+use Rattle.tree.specs.Pages.{Page, weigh}
+use Rattle.tree.specs.Bytes.{taken}
+use Rattle.tree.proofs.Order.{clash}
+use Rattle.node.proofs.Weights.{weighs}
 use Rattle.node.specs.Node.{countIn, entriesTo, entriesIn, Formed, Cleared, Pushed}
-use Rattle.node.specs.Joiner.{pagesTo, onLast}
+use Rattle.node.specs.Joiner.{pagesTo, onLast, spare, joinOn}
 
 module _ (ps : List (List ℕ)) (n : ℕ) (x : List ℕ) (h : n < length ps) where
   pages-before : (m : ℕ) → m ≤ n → pagesTo (set ps n x) m ≡ pagesTo ps m
@@ -45,6 +49,12 @@ on-last e [] p = refl
 on-last e (q ∷ []) p = refl
 on-last e (q ∷ r ∷ ps) p = ap (λ x. q ∷ x) (on-last e (r ∷ ps) p)
 
+spare-last : (ps : List Page) (p : Page) → spare (ps ++ (p ∷ [])) ≡ 4088 - weigh taken p
+unfolding spare
+spare-last [] p = refl
+spare-last (q ∷ []) p = refl
+spare-last (q ∷ r ∷ ps) p = spare-last (r ∷ ps) p
+
 -- an entry was pushed on the last page, or there was no room for it
 module _ (ps : List (List ℕ)) (len : ℕ) (key value page next : List ℕ) (some : 0 < len) (there : len ≤ length ps) (is : page ≡ getD ps (len - 1) []) (s : (i : ℕ) → i < len → Formed (getD ps i []) (countIn (getD ps i []))) where
   pages-last : pagesTo ps len ≡ pagesTo ps (len - 1) ++ (entriesIn page ∷ [])
@@ -62,13 +72,71 @@ module _ (ps : List (List ℕ)) (len : ℕ) (key value page next : List ℕ) (so
   pub formed-page : Formed page (countIn page)
   formed-page = subst (λ q. Formed q (countIn q)) (sym is) (s (len - 1) (omega arith))
 
-  abbrev Then : Bool → Type 0
-  Then r =
-      ((i : ℕ) → i < len → Formed (getD (set ps (len - 1) next) i []) (countIn (getD (set ps (len - 1) next) i [])))
-      × (pagesTo (set ps (len - 1) next) len ≡ cond r (onLast (record { key = key; value = value }) (pagesTo ps len)) (pagesTo ps len))
+  pages-pushed : (r : Bool) → Pushed page key value r next → pagesTo (set ps (len - 1) next) len ≡ cond r (onLast (record { key = key; value = value }) (pagesTo ps len)) (pagesTo ps len)
+  pages-pushed true (w, a) =
+      pages-next ∙ ap (λ q. pagesTo ps (len - 1) ++ (q ∷ [])) (a .entries) ∙ sym (on-last (record { key = key; value = value }) (pagesTo ps (len - 1)) (entriesIn page)) ∙ ap (onLast (record { key = key; value = value })) (sym pages-last)
+  pages-pushed false (w, e) = pages-next ∙ ap (λ q. pagesTo ps (len - 1) ++ (entriesIn q ∷ [])) e ∙ sym pages-last
 
-  pub pushed-on : (r : Bool) → Pushed page key value r next → Then r
-  pushed-on true (w, a) =
-      (formed-next (a .formed),
-       pages-next ∙ ap (λ q. pagesTo ps (len - 1) ++ (q ∷ [])) (a .entries) ∙ sym (on-last (record { key = key; value = value }) (pagesTo ps (len - 1)) (entriesIn page)) ∙ ap (onLast (record { key = key; value = value })) (sym pages-last))
-  pushed-on false (w, e) = (formed-next (subst (λ q. Formed q (countIn q)) (sym e) formed-page), pages-next ∙ ap (λ q. pagesTo ps (len - 1) ++ (entriesIn q ∷ [])) e ∙ sym pages-last)
+  formed-pushed : (r : Bool) → Pushed page key value r next → (i : ℕ) → i < len → Formed (getD (set ps (len - 1) next) i []) (countIn (getD (set ps (len - 1) next) i []))
+  formed-pushed true (w, a) = formed-next (a .formed)
+  formed-pushed false (w, e) = formed-next (subst (λ q. Formed q (countIn q)) (sym e) formed-page)
+
+  pub spare-page : spare (pagesTo ps len) ≡ 4088 - weigh taken (entriesIn page)
+  spare-page = ap spare pages-last ∙ spare-last (pagesTo ps (len - 1)) (entriesIn page)
+
+  crowded : (r : Bool) → Pushed page key value r next → r ≡ false → spare (pagesTo ps len) < 4 + (length key + length value)
+  crowded true p e = absurd (clash (sym e))
+  crowded false (w, q) e = omega (arith, spare-page, weighs page formed-page, w)
+
+  -- all that holds after it
+  pub record PushedOn (r : Bool) : Type 0 where
+    pub formed : (i : ℕ) → i < len → Formed (getD (set ps (len - 1) next) i []) (countIn (getD (set ps (len - 1) next) i []))
+    pub pages : pagesTo (set ps (len - 1) next) len ≡ cond r (onLast (record { key = key; value = value }) (pagesTo ps len)) (pagesTo ps len)
+    pub crowd : r ≡ false → spare (pagesTo ps len) < 4 + (length key + length value)
+
+  pub pushed-on : (r : Bool) → Pushed page key value r next → PushedOn r
+  pushed-on r p = record { formed = formed-pushed r p; pages = pages-pushed r p; crowd = crowded r p }
+
+-- JOINING A UNIT
+-- a page of its own where the last has no room, and then its entry: that is the unit joined
+pub joined-one : (e : Entry) (ps : List Page) → onLast e (cond (ltb (spare ps) (taken e)) (ps ++ ([] ∷ [])) ps) ≡ joinOn taken 4088 (e ∷ []) ps
+unfolding spare onLast joinOn weigh
+joined-one e [] = rw (lt-ltb 0 (taken e) (omega arith)) refl
+joined-one e (p ∷ []) =
+    elim (cases-lt (4088 - weigh taken p) (taken e)) [
+      | inl h ↦ let full : leb (weigh taken p + (taken e + 0)) 4088 ≡ false = lt-leb (weigh taken p + (taken e + 0)) 4088 (omega arith) in rw (lt-ltb (4088 - weigh taken p) (taken e) h, full) refl
+      | inr h ↦ let fits : leb (weigh taken p + (taken e + 0)) 4088 ≡ true = le-leb (weigh taken p + (taken e + 0)) 4088 (omega arith) in rw (le-ltb (4088 - weigh taken p) (taken e) h, fits) refl
+    ]
+joined-one e (p ∷ q ∷ ps) = behind (ltb (spare (q ∷ ps)) (taken e)) ∙ ap (λ x. p ∷ x) (joined-one e (q ∷ ps))
+  where
+    behind : (t : Bool) → onLast e (cond t (p ∷ q ∷ (ps ++ ([] ∷ []))) (p ∷ q ∷ ps)) ≡ p ∷ onLast e (cond t (q ∷ (ps ++ ([] ∷ []))) (q ∷ ps))
+    behind true = refl
+    behind false = refl
+
+pub spare-none : (ps : List (List ℕ)) (len : ℕ) → len ≡ 0 → spare (pagesTo ps len) ≡ 0
+unfolding spare pagesTo
+spare-none ps len e = ap (λ n. spare (pagesTo ps n)) e
+
+no-weight : weigh taken [] ≡ 0
+unfolding weigh
+no-weight = refl
+
+-- what was reserved is there
+spare-reserved : (ps : List Page) (w : ℕ) → w ≤ 4088 → w ≤ spare (cond (ltb (spare ps) w) (ps ++ ([] ∷ [])) ps)
+spare-reserved ps w h = go (cases-lt (spare ps) w)
+  where
+    go : (spare ps < w) ⊎ (w ≤ spare ps) → w ≤ spare (cond (ltb (spare ps) w) (ps ++ ([] ∷ [])) ps)
+    go (inl l) = rw (lt-ltb (spare ps) w l) (let e = spare-last ps [] in let z = no-weight in omega arith)
+    go (inr l) = rw (le-ltb (spare ps) w l) l
+
+-- the entry was pushed after so much was reserved, so there was room for it
+module _ (ps qs rs : List Page) (e : Entry) (r : Bool) (small : taken e ≤ 4088) (reserved : qs ≡ cond (ltb (spare ps) (taken e)) (ps ++ ([] ∷ [])) ps) (pushed : rs ≡ cond r (onLast e qs) qs) (crowd : r ≡ false → spare qs < taken e) where
+  pub was-pushed : r ≡ true
+  was-pushed = go r refl
+    where
+      go : (t : Bool) → r ≡ t → t ≡ true
+      go true z = refl
+      go false z = let a = crowd z in let b = spare-reserved ps (taken e) small in let d = ap spare reserved in absurd (omega arith)
+
+  pub joined-by : rs ≡ joinOn taken 4088 (e ∷ []) ps
+  joined-by = pushed ∙ ap (λ t. cond t (onLast e qs) qs) was-pushed ∙ ap (onLast e) reserved ∙ joined-one e ps

@@ -3,11 +3,12 @@ use mathlib.Core.Path.{_≡_}
 use mathlib.Core.Bool.{Bool, true, false, cond}
 use mathlib.Core.List.{List, [], _∷_, _++_}
 use Prim.Native.Nat.{ℕ, zero, suc, _+_, _-_, _<_, _≤_}
-use lib.Dec.{leb}
+use lib.Dec.{leb, ltb}
 use lib.ListN.{length, getD}
 use Rattle.std.specs.Of.Vec.{vec-len, vec-items}
 use Rattle.tree.specs.Entries.{Entry}
 use Rattle.tree.specs.Pages.{Page, weigh}
+use Rattle.tree.specs.Bytes.{taken}
 use Rattle.node.specs.Node.{countIn, entriesIn, Formed}
 use Rattle.node.specs.declared.joiner.Joiner.{Joiner}
 
@@ -40,6 +41,24 @@ abbrev pub OpenedBy : Joiner → Bool → Joiner → Type 0
 OpenedBy j true k = Sound k × (pagesOf k ≡ pagesOf j ++ ([] ∷ []))
 OpenedBy j false k = (j .len ≡ 24) × (k ≡ j)
 
+-- how many bytes the last page has room for; none where there is no page
+unfoldable pub spare : List Page → ℕ
+spare [] = 0
+spare (p ∷ []) = 4088 - weigh taken p
+spare (p ∷ q ∷ ps) = spare (q ∷ ps)
+
 -- an entry behind the last page's, where that has room for it
-abbrev pub PushedBy : Joiner → Entry → Bool → Joiner → Type 0
-PushedBy j e r k = Sound k × (pagesOf k ≡ cond r (onLast e (pagesOf j)) (pagesOf j))
+pub record PushedBy (j : Joiner) (e : Entry) (r : Bool) (k : Joiner) : Type 0 where
+  pub sound : Sound k
+  pub pages : pagesOf k ≡ cond r (onLast e (pagesOf j)) (pagesOf j)
+  pub crowded : r ≡ false → spare (pagesOf j) < taken e
+
+-- a page with room for so many bytes is the last one, or there was no place for one
+abbrev pub ReservedBy : Joiner → ℕ → Bool → Joiner → Type 0
+ReservedBy j w true k = Sound k × (pagesOf k ≡ cond (ltb (spare (pagesOf j)) w) (pagesOf j ++ ([] ∷ [])) (pagesOf j))
+ReservedBy j w false k = (j .len ≡ 24) × (k ≡ j)
+
+-- a unit was joined to the pages, or there was no place for it
+abbrev pub JoinedBy : Joiner → Page → Bool → Joiner → Type 0
+JoinedBy j q true k = Sound k × (pagesOf k ≡ joinOn taken 4088 q (pagesOf j))
+JoinedBy j q false k = j .len ≡ 24

@@ -9,6 +9,9 @@ mod work;
 // The pages that one change of a level can make.
 pub const MOST: usize = 24;
 
+// The bytes of entries that a page holds.
+pub const CAPACITY: usize = 4088;
+
 #[derive(Drop)]
 pub struct Joiner {
     pages: Vec<[u8; 4096]>,

@@ -1,12 +1,16 @@
 // What is done with the pages of a joiner.
 ghost use mathlib.Core.Path.{_≡_};
-ghost use mathlib.Core.List.{[]};
+ghost use mathlib.Core.List.{[], _∷_};
+ghost use Prim.Native.Nat.{_+_, _≤_};
+ghost use lib.ListN.{length};
 ghost use Rattle.std.specs.Vec.{made};
-ghost use Rattle.node.specs.Joiner.{pagesOf, Sound, OpenedBy, PushedBy};
+ghost use Rattle.node.specs.Joiner.{pagesOf, Sound, OpenedBy, PushedBy, spare, ReservedBy, JoinedBy};
 use crate::clear;
+use crate::joiner::CAPACITY;
 use crate::joiner::Joiner;
 use crate::joiner::MOST;
 use crate::push;
+use crate::used;
 use std::alloc::AllocError;
 use std::alloc::Global;
 
@@ -52,9 +56,41 @@ impl Joiner {
         ensures { λ r. ⌜ (Sound (now (self .entry)) → PushedBy (now (self .entry)) (record { key = now (key .entry); value = now (value .entry) }) r (now (self .exit))) ⌝ }
     {
         let len = self.len;
-        if len == 0 || len > self.pages.len() {
+        if len == 0 {
             return false;
         }
         push(&mut self.pages[len - 1], key, value)
+    }
+
+    // How many bytes the last page has room for; none where there is no page.
+    fn room(&self) -> usize
+        ensures { λ r. ⌜ (Sound (now (self .entry)) → r ≡ spare (pagesOf (now (self .entry)))) ⌝ }
+    {
+        let len = self.len;
+        if len == 0 {
+            return 0;
+        }
+        CAPACITY.saturating_sub(used(&self.pages[len - 1]))
+    }
+
+    // Sees to it that the last page has room for so many bytes; false where there is no place for one more.
+    fn reserve(&mut self, weight: usize) -> bool
+        ensures { λ r. ⌜ (Sound (now (self .entry)) → ReservedBy (now (self .entry)) weight r (now (self .exit))) ⌝ }
+    {
+        if self.room() < weight {
+            return self.open();
+        }
+        true
+    }
+
+    // One entry as a unit of its own.
+    pub fn add(&mut self, key: &[u8], value: &[u8]) -> bool
+        ensures { λ r. ⌜ (Sound (now (self .entry)) → 4 + (length (now (key .entry)) + length (now (value .entry))) ≤ 4088 → JoinedBy (now (self .entry)) (record { key = now (key .entry); value = now (value .entry) } ∷ []) r (now (self .exit))) ⌝ }
+    {
+        let weight = key.len().saturating_add(value.len()).saturating_add(4);
+        if !self.reserve(weight) {
+            return false;
+        }
+        self.push_on(key, value)
     }
 }

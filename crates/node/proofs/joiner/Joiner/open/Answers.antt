@@ -12,6 +12,7 @@ pub returns : need.returns
 returns c = λ s.
     let ps = vec-items (c .args .self .now .pages) in
     let n = c .args .self .now .len in
-    let h : n < length ps = omega (arith, c .args .self .now .pages .ok .0, c .len .ensures, c .if-at-len .left) in
-    (formed-set ps n (c .clear .last .page) h s (c .clear .ensures .formed),
-     pages-set ps n (c .clear .last .page) h ∙ ap (λ q. pagesTo ps n ++ (q ∷ [])) (no-entries (c .args .self .now .level) (c .clear .last .page) (c .clear .ensures)))
+    let h : n < length ps = omega (arith, c .args .self .now .pages .ok .0, c .len .ensures, c .if-at-len .left) in (
+      formed-set ps n (c .clear .last .page) h s (c .clear .ensures .formed),
+      pages-set ps n (c .clear .last .page) h ∙ ap (λ q. pagesTo ps n ++ (q ∷ [])) (no-entries (c .args .self .now .level) (c .clear .last .page) (c .clear .ensures)),
+    )
