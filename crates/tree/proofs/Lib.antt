@@ -14,3 +14,4 @@ pub mod Whole
 pub mod Replace
 pub mod Bytes
 pub mod Witness
+pub mod Room

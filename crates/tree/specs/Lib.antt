@@ -6,3 +6,4 @@ pub mod Change
 pub mod Laws
 pub mod Bytes
 pub mod Witness
+pub mod Room

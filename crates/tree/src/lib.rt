@@ -4,6 +4,7 @@
 // Pages and Tree; specs/Laws has the statements.
 ghost use Rattle.tree.specs.Bytes.{BytesAre};
 ghost use Rattle.tree.specs.Witness.{Witness, Changed};
+ghost use Rattle.tree.specs.Room.{StandsSized, RoomSays};
 ghost use Rattle.tree.specs.Laws.{JoinKeeps, LevelAny, RaisedPuts, Splice, WindowApart, WindowGrown, PiecesFit, LevelEdit, HeadsRise, NewLevel, TrimStands, AtStep, UnderStep, BelongsParts, FirstFound, LastFound, NoneFound, SameLead, DownReaches, DownUnder, DownExact, DownBefore, SeekFrom, SeekBefore, SeekLeaf, LeafChange, ClimbLinks, TopLinks, NewPages, Seventeen, LeafSix, WholeFew, FirstChange, EntersTakes, RunBelongs, Space1226, WholeChange, WholeFirst, TouchedThree, ReplaceIs, ReplaceGrown, StandsStored, NamesApart, LeafBound, InnerBound, TreeBound, SpaceBound, HeightBound};
 
 // Joining keeps the entries, and neighbours come out apart.
@@ -125,6 +126,14 @@ pub fn witness_stands() -> u8
 // Pages as bytes.
 pub fn bytes_stand() -> u8
     ensures { λ _. ⌜ BytesAre ⌝ }
+{
+    0
+}
+
+// Want of room says how much is kept, and a tree that stands takes no more pages than what its entries weigh allows.
+pub fn room_stands() -> u8
+    ensures sized { λ _. ⌜ StandsSized ⌝ }
+    ensures says { λ _. ⌜ RoomSays ⌝ }
 {
     0
 }
