@@ -15,3 +15,4 @@ pub mod Replace
 pub mod Bytes
 pub mod Witness
 pub mod Room
+pub mod Many

@@ -7,3 +7,4 @@ pub mod Laws
 pub mod Bytes
 pub mod Witness
 pub mod Room
+pub mod Many

@@ -5,6 +5,7 @@
 ghost use Rattle.tree.specs.Bytes.{BytesAre};
 ghost use Rattle.tree.specs.Witness.{Witness, Changed};
 ghost use Rattle.tree.specs.Room.{StandsSized, RoomSays};
+ghost use Rattle.tree.specs.Many.{ManyMaps, ManyRise};
 ghost use Rattle.tree.specs.Laws.{JoinKeeps, LevelAny, RaisedPuts, Splice, WindowApart, WindowGrown, PiecesFit, LevelEdit, HeadsRise, NewLevel, TrimStands, AtStep, UnderStep, BelongsParts, FirstFound, LastFound, NoneFound, SameLead, DownReaches, DownUnder, DownExact, DownBefore, SeekFrom, SeekBefore, SeekLeaf, LeafChange, ClimbLinks, TopLinks, NewPages, Seventeen, LeafSix, WholeFew, FirstChange, EntersTakes, RunBelongs, Space1226, WholeChange, WholeFirst, TouchedThree, ReplaceIs, ReplaceGrown, StandsStored, NamesApart, LeafBound, InnerBound, TreeBound, SpaceBound, HeightBound};
 
 // Joining keeps the entries, and neighbours come out apart.
@@ -134,6 +135,14 @@ pub fn bytes_stand() -> u8
 pub fn room_stands() -> u8
     ensures sized { λ _. ⌜ StandsSized ⌝ }
     ensures says { λ _. ⌜ RoomSays ⌝ }
+{
+    0
+}
+
+// Many maps in one list: what is done to one is done to its entries, and what is looked for is what it has.
+pub fn many_stand() -> u8
+    ensures maps { λ _. ⌜ ManyMaps ⌝ }
+    ensures rise { λ _. ⌜ ManyRise ⌝ }
 {
     0
 }
