@@ -3,3 +3,4 @@ pub mod Adding
 pub mod Halving
 pub mod Weights
 pub mod Making
+pub mod Picking

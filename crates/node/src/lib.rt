@@ -1,11 +1,13 @@
 // A node: a page of the tree as bytes. It is read in place, by parts of the page, and searched by halving; a page that is
 // garbled is read without harm. It stands on `bytes`, and what its entries are is said by `tree`.
 ghost use mathlib.Core.Path.{_≡_};
+ghost use mathlib.Core.List.{List, [], _∷_, _++_};
 ghost use Prim.Native.Nat.{ℕ, _+_, _*_, _<_, _≤_};
 ghost use lib.ListN.{length};
 ghost use Rattle.bytes.specs.Parts.{pair};
 ghost use Rattle.tree.specs.Bytes.{taken};
 ghost use Rattle.tree.specs.Pages.{weigh};
+ghost use Rattle.node.specs.Look.{Picked};
 ghost use Rattle.node.specs.Node.{countIn, startOf, keyAt, valueAt, entryAt, entriesIn, Formed, Sorted, Parted, Cleared, Written, Pushed};
 use bytes::copy_in;
 use bytes::fill_zero;
@@ -86,6 +88,15 @@ pub fn under(page: &[u8; 4096], wanted: &[u8]) -> usize
         }
     }
     low
+}
+
+// The entry of an inner node that leads to where a key belongs: the last that is not above it, or the first. `above` is the
+// key with a 0 behind it, the least key above it.
+pub fn pick(page: &[u8; 4096], above: &[u8]) -> usize
+    ensures { λ r. ⌜ ((k : List ℕ) → now (above .entry) ≡ k ++ (0 ∷ []) → Formed (now (page .entry)) (countIn (now (page .entry))) → Sorted (now (page .entry)) (countIn (now (page .entry))) → 0 < countIn (now (page .entry)) → Picked (now (page .entry)) k r) ⌝ }
+{
+    let n = under(page, above);
+    if n > 0 { n - 1 } else { 0 }
 }
 
 // How many bytes the entries of a page take.
