@@ -1,4 +1,4 @@
--- Where no slot is free, the pages that have one and the page that wants one are more than the slots.
+-- Where no slot is free, there are at least as many pages that have one as there are slots.
 use mathlib.Core.Path.{_≡_, refl, sym, _∙_, ap, subst}
 use mathlib.Core.Logic.{_⊎_, inl, inr}
 use mathlib.Core.Bool.{Bool, true, false, cond, _&&_, not}
@@ -56,16 +56,16 @@ pigeon N S L G a b new (suc t) l =
 abbrev upto : ℕ → ℕ → Bool
 upto v t = leb 1 v && leb v t
 
-and-true : (a b : Bool) → a && b ≡ true → (a ≡ true) × (b ≡ true)
+pub and-true : (a b : Bool) → a && b ≡ true → (a ≡ true) × (b ≡ true)
 and-true true true e = (refl, refl)
 and-true true false e = absurd (let u : _≡_ {A = ℕ} 0 1 = cc in omega arith)
 and-true false true e = absurd (let u : _≡_ {A = ℕ} 0 1 = cc in omega arith)
 and-true false false e = absurd (let u : _≡_ {A = ℕ} 0 1 = cc in omega arith)
 
-true-and : (a b : Bool) → a ≡ true → b ≡ true → a && b ≡ true
+pub true-and : (a b : Bool) → a ≡ true → b ≡ true → a && b ≡ true
 true-and a b e f = ap (λ x. x && b) e ∙ f
 
-false-and : (a b : Bool) → b ≡ false → a && b ≡ false
+pub false-and : (a b : Bool) → b ≡ false → a && b ≡ false
 false-and true b e = e
 false-and false b e = refl
 
@@ -82,32 +82,23 @@ upto-more : (v t : ℕ) → upto v t ≡ true → upto v (t + 1) ≡ true
 upto-more v t e = let (a, b) = upto-in v t e in upto-of v (t + 1) a (omega arith)
 
 -- a present entry that is not the committed one
-abbrev moved : ℕ → ℕ → Bool
+abbrev pub moved : ℕ → ℕ → Bool
 moved v u = not (eqb v u)
 
-moved-of : (v u : ℕ) → (v ≡ u → ⊥) → moved v u ≡ true
+pub moved-of : (v u : ℕ) → (v ≡ u → ⊥) → moved v u ≡ true
 moved-of v u h = ap not (ne-eqb v u h)
 
-moved-in : (v u : ℕ) → moved v u ≡ true → v ≡ u → ⊥
+pub moved-in : (v u : ℕ) → moved v u ≡ true → v ≡ u → ⊥
 moved-in v u e z = let f : not true ≡ true = ap not (sym (eq-eqb v u z)) ∙ e in let g : _≡_ {A = ℕ} 0 1 = cc in omega arith
 
--- a page that has no slot of its own
-not-own : (v u t : ℕ) → (1 ≤ v → v ≡ u) → upto v t && moved v u ≡ false
-not-own v u t h = by (leb 1 v) refl
-  where
-    by : (c : Bool) → leb 1 v ≡ c → upto v t && moved v u ≡ false
-    by true e = false-and (upto v t) (moved v u) (ap not (eq-eqb v u (h (leb-true 1 v e))))
-    by false e = ap (λ x. (x && leb v t) && moved v u) e
-
--- no slot is free for the page p, which has none of its own: with it there is more to be kept than there are slots
-pub no-room : (N S : ℕ) (b w o : ℕ → ℕ) (live given : ℕ → Bool) (p : ℕ) → p < N → ((q : ℕ) → q < N → 1 ≤ b q → live q ≡ true) → ((q : ℕ) → q < N → 1 ≤ w q → (w q ≡ b q → ⊥) → given q ≡ true) →
-    (1 ≤ w p → w p ≡ b p) → given p ≡ true → ((s : ℕ) → 1 ≤ s → s ≤ S → Free N b w o s → ⊥) → S < count N live + count N given
-no-room N S b w o live given p i hl hg own wants none =
+-- no slot is free: each is the committed one of a page, or the present one of a page that has left its committed one
+pub no-room : (N S : ℕ) (b w o : ℕ → ℕ) (live given : ℕ → Bool) → ((p : ℕ) → p < N → 1 ≤ b p → live p ≡ true) → ((p : ℕ) → p < N → 1 ≤ w p → (w p ≡ b p → ⊥) → given p ≡ true) →
+    ((s : ℕ) → 1 ≤ s → s ≤ S → Free N b w o s → ⊥) → S ≤ count N live + count N given
+no-room N S b w o live given hl hg none =
     let x = pigeon N S (λ t p. upto (b p) t) (λ t p. upto (w p) t && moved (w p) (b p)) (λ t p l e. upto-more (b p) t e)
     (λ t p l e. let (u, v) = and-true (upto (w p) t) (moved (w p) (b p)) e in true-and (upto (w p) (t + 1)) (moved (w p) (b p)) (upto-more (w p) t u) v) new S (omega arith) in
     let y = count-le N (λ p. upto (b p) S) live (λ p l e. hl p l (upto-in (b p) S e .0)) in
-    let z = count-lt N (λ p. upto (w p) S && moved (w p) (b p)) given p
-    (λ q l e. let (u, v) = and-true (upto (w q) S) (moved (w q) (b q)) e in hg q l (upto-in (w q) S u .0) (moved-in (w q) (b q) v)) i (not-own (w p) (b p) S own) wants in
+    let z = count-le N (λ p. upto (w p) S && moved (w p) (b p)) given (λ p l e. let (u, v) = and-true (upto (w p) S) (moved (w p) (b p)) e in hg p l (upto-in (w p) S u .0) (moved-in (w p) (b p) v)) in
     omega arith
   where
     at : (t : ℕ) → t < S → (c : Bool) → leb N (o (t + 1)) ≡ c → (i : Bool) → eqb (b (o (t + 1))) (t + 1) ≡ i → (j : Bool) → eqb (w (o (t + 1))) (t + 1) ≡ j →

@@ -12,7 +12,7 @@ use Rattle.std.proofs.shelf.Tests.{le-leb, leb-true, leb-false}
 use Rattle.device.specs.Device.{Device, zeros, latest, shown, written, synced, AfterCut}
 use Rattle.device.proofs.Sectors.{Calm, Quiet, shown-calm, shown-written, since-other, since-same, cut-calm, cut-one}
 use Rattle.shadow.specs.Layout.{other, areaAt, slotAt, areaIn, rawIn, entryIn, blankPage, pageIn, updated, Free}
-use Rattle.shadow.proofs.Pages.{shown-other, page-same, page-write, slot-apart}
+use Rattle.shadow.proofs.Pages.{shown-other, page-same, slot-apart}
 
 pub area-low : (M : ℕ) (a : Bool) (i : ℕ) → i < M → (1 ≤ areaAt M a i) × (areaAt M a i ≤ 2 * M)
 area-low M true i h = (omega arith, omega arith)
@@ -149,19 +149,16 @@ module _ (N M S : ℕ) (few : N ≤ 64 * M) where
     dirty = h .dirty;
   }
 
-  -- PUT: page p is given the slot s, or keeps it, and v is written to the sector i of it
-  module _ (b w o w' o' : ℕ → ℕ) (y y' : ℕ → Bool) (Q : ℕ → List ℕ) (d : Device) (p s i : ℕ) (v : List ℕ) (one : 1 ≤ s) (fits : s ≤ S) (part : i < 8)
-      (free : (q : ℕ) → q < N → b q ≡ s → ⊥) (alone : (q : ℕ) → q < N → (q ≡ p → ⊥) → w q ≡ s → ⊥)
+  -- PUT: page p is given the slot s, or keeps it; `after` may show anything in that slot
+  module _ (b w o w' o' : ℕ → ℕ) (y y' : ℕ → Bool) (Q : ℕ → List ℕ) (d after : Device) (p s : ℕ) (one : 1 ≤ s) (fits : s ≤ S)
+      (left : (e : ℕ) → (e ≡ s → ⊥) → pageIn M (shown after) e ≡ pageIn M (shown d) e) (free : (q : ℕ) → q < N → b q ≡ s → ⊥) (alone : (q : ℕ) → q < N → (q ≡ p → ⊥) → w q ≡ s → ⊥)
       (here : w' p ≡ s) (rest : (q : ℕ) → (q ≡ p → ⊥) → w' q ≡ w q) (owned : o' s ≡ p) (others : (t : ℕ) → (t ≡ s → ⊥) → o' t ≡ o t)
       (flag : (q : ℕ) → q < N → y' (q / 64) ≡ false → (q ≡ p → ⊥) × (y (q / 64) ≡ false)) (h : Above b w o y Q d) where
-    abbrev after : Device
-    after = written (slotAt M s + i) v d
-
     put-page : (q : ℕ) → q < N → (t : Bool) → eqb q p ≡ t → pageIn M (shown after) (w' q) ≡ cond t (pageIn M (shown after) s) (Q q)
     put-page q l true e = let z : q ≡ p = eqb-true q p e in ap (pageIn M (shown after)) (ap w' z ∙ here)
     put-page q l false e =
         let n : (q ≡ p → ⊥) = eqb-false q p e in
-        ap (pageIn M (shown after)) (rest q n) ∙ page-write M s (w q) i v d one part (alone q l n) ∙ h .page q l
+        ap (pageIn M (shown after)) (rest q n) ∙ left (w q) (alone q l n) ∙ h .page q l
 
     put-fits : (q : ℕ) → q < N → (t : Bool) → eqb q p ≡ t → w' q ≤ S
     put-fits q l true e = let z : w' q ≡ s = ap w' (eqb-true q p e) ∙ here in omega arith
