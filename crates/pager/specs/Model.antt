@@ -7,7 +7,8 @@ use lib.ListN.{length}
 use Rattle.device.specs.Device.{With, and, Engine, Judge}
 use Rattle.device.specs.Runs.{Whole}
 use Rattle.device.specs.declared.Never.{Never}
-use Rattle.shadow.specs.Layout.{pages, slots, blank, blankPage, updated, count}
+use Rattle.std.specs.Of.Vec.{vec-len}
+use Rattle.shadow.specs.Layout.{pages, mapSectors, slots, blank, blankPage, updated, count}
 use Rattle.pager.specs.Steps.{Opened, Called, Stepped, held}
 use Rattle.pager.specs.declared.state.Call.{Call}
 use Rattle.pager.specs.declared.state.Call.the-variants.{Get, Put, Give, Vacant, Commit, Undo}
@@ -55,7 +56,6 @@ pub data Replies (N S : ℕ) : With Call → Held → With Reply → Held → Ty
   -- what the page then holds is not said
   lends : (p : ℕ) (b v y : List ℕ) (s : Held) → p < N → Replies N S (and (Give p) b) s (and Done y) (changed p v s)
   lendsNone : (p : ℕ) (b y : List ℕ) (s : Held) → N ≤ p → Replies N S (and (Give p) b) s (and Outside y) s
-  lent : (p : ℕ) (b y : List ℕ) (s : Held) → p < N → s .given p ≡ true → Replies N S (and (Give p) b) s (and Done y) s
   lendsFull : (p : ℕ) (b y : List ℕ) (s : Held) → Crowded N S p s → Replies N S (and (Give p) b) s (and NoRoom y) s
   finds : (p q : ℕ) (b y : List ℕ) (s : Held) → p ≤ q → q < N → s .has q ≡ false → ((k : ℕ) → p ≤ k → k < q → s .has k ≡ true) → Replies N S (and (Vacant p) b) s (and (At q) y) s
   findsNone : (p : ℕ) (b y : List ℕ) (s : Held) → ((k : ℕ) → p ≤ k → k < N → s .has k ≡ true) → Replies N S (and (Vacant p) b) s (and Nowhere y) s
@@ -74,3 +74,8 @@ pagerEngine = record { Opens = Opened; Begins = Called; Steps = Stepped; Buffer 
 -- on a device of any size, every answer, over all calls and cuts, is the model's; and on every content of it only its sectors are asked for, and every call ends
 abbrev pub PagerWhole : Type 0
 PagerWhole = Whole pagerJudge pagerEngine
+
+-- all that a pager takes of the heap, in bytes: two maps and the owners of the slots by eight bytes an entry, two flags a map sector, one page. At most 25 bytes a page and 8 KiB.
+pub record Memory (size : ℕ) (m : Pager) : Type 0 where
+  pub sum : 8 * vec-len (m .base) + 8 * vec-len (m .present) + 8 * vec-len (m .owner) + vec-len (m .dirty) + vec-len (m .behind) + vec-len (m .page) ≡ 1024 * mapSectors size + 8 * (slots size + 1) + 2 * mapSectors size + 4096
+  pub most : 1024 * mapSectors size + 8 * (slots size + 1) + 2 * mapSectors size + 4096 ≤ 25 * pages size + 8192

@@ -176,7 +176,14 @@ pub fn vacant(present: &[u64], p: usize, pages: usize) -> usize
 }
 
 // A free slot from `low` on and below `high`, or 0 where there is none.
-pub fn free_between(base: &[u64], present: &[u64], owner: &[u64], pages: usize, low: usize, high: usize) -> usize
+pub fn free_between(
+    base: &[u64],
+    present: &[u64],
+    owner: &[u64],
+    pages: usize,
+    low: usize,
+    high: usize,
+) -> usize
     requires { ⌜ pages ≤ length (now base) ⌝ ∗ ⌜ pages ≤ length (now present) ⌝ ∗ ⌜ high ≤ length (now owner) ⌝ ∗ ⌜ 1 ≤ low ⌝ }
     ensures none { λ r. ⌜ (r ≡ 0 → (s : ℕ) → low ≤ s → s < high → Free pages (λ p. getD (now (base .entry)) p 0) (λ p. getD (now (present .entry)) p 0) (λ t. getD (now (owner .entry)) t 0) s → ⊥) ⌝ }
     ensures some { λ r. ⌜ (1 ≤ r → (r < high) × Free pages (λ p. getD (now (base .entry)) p 0) (λ p. getD (now (present .entry)) p 0) (λ t. getD (now (owner .entry)) t 0) r) ⌝ }

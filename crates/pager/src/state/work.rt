@@ -2,8 +2,9 @@
 ghost use mathlib.Core.Path.{_≡_};
 ghost use mathlib.Core.Logic.{_⊎_};
 ghost use Prim.Native.Nat.{ℕ, _+_, _*_, _<_, _≤_};
-ghost use Rattle.pager.specs.Model.{pagerEngine};
-ghost use Rattle.pager.specs.Steps.{ws, Same, Sizes, FetchAt, LoadAt, Answers, CheckAt, CompareAt, GetAt, SlotOf, InSlot, GettingAt, Owns, Entered, SlotFor, PutAt, GiveAt, PuttingAt, FoundAt, NotFound, UndoAt, FillAt, SealAt, PhaseAt};
+ghost use Rattle.pager.specs.Model.{Memory, pagerEngine, PagerWhole};
+ghost use Rattle.std.specs.Vec.{made};
+ghost use Rattle.pager.specs.Steps.{Opened, ws, Same, Sizes, FetchAt, LoadAt, Answers, CheckAt, CompareAt, GetAt, SlotOf, InSlot, GettingAt, Owns, Entered, SlotFor, PutAt, GiveAt, PuttingAt, FoundAt, NotFound, UndoAt, FillAt, SealAt, PhaseAt};
 use super::Call;
 use super::Pager;
 use super::Phase;
@@ -13,6 +14,8 @@ use device::Ask;
 use device::Never;
 use device::Store;
 use device::bytes_fit;
+use std::alloc::AllocError;
+use std::alloc::Global;
 
 // Coming up: the header, the active area, then what the other area has.
 impl Pager {
@@ -173,7 +176,13 @@ impl Pager {
         if self.owns(p) {
             return self.present[p];
         }
-        let slot = leaves::free_slot(&self.base, &self.present, &self.owner, self.pages, self.hint);
+        let slot = leaves::free_slot(
+            &self.base,
+            &self.present,
+            &self.owner,
+            self.pages,
+            self.hint,
+        );
         if slot == 0 {
             return 0;
         }
@@ -381,5 +390,40 @@ pub impl Store for Pager as PagerStore {
 
     fn shown(&self) -> &[u8] {
         &self.page
+    }
+}
+
+impl Pager {
+    // A pager for a device of so many sectors, which it has yet to read. Whatever is done with it then, and whenever the power fails, it keeps to the model.
+    pub fn open(heap: Global, size: u64) -> Result<Pager, AllocError>
+        ensures opened { λ r. ⌜ made r (Opened size) ⌝ }
+        ensures memory { λ r. ⌜ made r (Memory size) ⌝ }
+        ensures whole { λ _. ⌜ PagerWhole ⌝ }
+    {
+        let pages = (size / 8) as usize;
+        let maps = pages.div_ceil(64);
+        let used = 1 + 2 * maps as u64;
+        let slots = (size.saturating_sub(used) / 8) as usize;
+        let base = vec![in heap; 0u64; 64 * maps]?;
+        let present = vec![in heap; 0u64; 64 * maps]?;
+        let owner = vec![in heap; 0u64; slots + 1]?;
+        let dirty = vec![in heap; false; maps]?;
+        let behind = vec![in heap; false; maps]?;
+        let page = vec![in heap; 0u8; 4096]?;
+        Ok(Pager {
+            phase: Phase::Opening,
+            pages,
+            maps,
+            slots,
+            second: false,
+            base,
+            present,
+            owner,
+            dirty,
+            behind,
+            hint: 1,
+            page,
+            sector: [0; 512],
+        })
     }
 }
