@@ -1,0 +1,5 @@
+pub mod Lists
+pub mod Agree
+pub mod Between
+pub mod Keeps
+pub mod Ends
