@@ -40,7 +40,7 @@ struct Rehearsal {
 
 impl Rehearsal {
     fn begin(heap: Global, size: u64) -> Result<Rehearsal, Stop> {
-        let Ok(engine) = Engine::open(size) else {
+        let Ok(engine) = Engine::open(heap, size) else {
             return Err(Stop::Failed(io::Error::from(io::ErrorKind::InvalidInput)));
         };
         Ok(Rehearsal {
@@ -57,10 +57,11 @@ impl Rehearsal {
     // The power has failed: what the engine had in memory is gone.
     fn fail(&mut self) -> Result<(), Stop> {
         self.up = false;
-        if let Ok(engine) = Engine::open(self.size) {
-            self.engine = engine;
-        }
         self.out.extend_from_slice(b"cut\n")?;
+        let Ok(engine) = Engine::open(self.heap, self.size) else {
+            return Err(Stop::Failed(io::Error::from(io::ErrorKind::OutOfMemory)));
+        };
+        self.engine = engine;
         Ok(())
     }
 

@@ -1,4 +1,4 @@
--- The session is right above the store that reads sectors, and so the engine is whole.
+-- The session is right above the specification of pages, and so the engine is whole.
 use mathlib.Core.Path.{_≡_, refl, _∙_, subst}
 use mathlib.Core.Logic.{_⊎_, inl, inr}
 use mathlib.Core.Bool.{Bool, true, false}
@@ -17,12 +17,15 @@ use Rattle.device.proofs.Ending.{settles-by}
 use Rattle.device.proofs.Whole.{layers-compose}
 use Rattle.device.proofs.Inside.{whole-inside}
 use Rattle.meaning.specs.Session.{Connection, Running, Idle, idle, next, readsNot, tooLong, nexts, Answers, Next as WantsRow, No as Refuses}
-use Rattle.session.specs.Reader.{readerJudge, readerEngine}
+use Rattle.pages.specs.Model.{Pages, pagesJudge, pagesEngine}
+use Rattle.pages.proofs.Ends.{pages-whole}
+use Rattle.pages.specs.declared.frames.PageCall.{PageCall}
+use Rattle.pages.specs.declared.frames.PageReply.{PageReply}
+use Rattle.pages.specs.declared.frames.Frames.{Frames}
+use Rattle.pager.specs.declared.state.Pager.{Pager}
+use Rattle.device.specs.declared.Over.{Over}
 use Rattle.session.specs.Layer.{saidOf, header, Is, StartsAt, HearsAt, sessionLayer}
 use Rattle.session.specs.Promise.{Says, refuses, Answered, tables, built, EngineWhole}
-use Rattle.session.specs.declared.reader.Load.{Load}
-use Rattle.session.specs.declared.reader.Loaded.{Loaded}
-use Rattle.session.specs.declared.reader.Reader.{Reader}
 use Rattle.session.specs.declared.statement.Doing.{Doing}
 use Rattle.session.specs.declared.statement.Doing.the-variants.{Rising, Loading, Resting, Said, Asked}
 use Rattle.session.specs.declared.statement.Session.{Session}
@@ -31,7 +34,6 @@ use Rattle.session.specs.declared.Call.the-variants.{Say, Next as NextRow}
 use Rattle.session.specs.declared.Value.{Value}
 use Rattle.session.specs.declared.Reply.{Reply}
 use Rattle.session.specs.declared.Reply.the-variants.{No, Done}
-use Rattle.session.proofs.Sectors.{reader-whole}
 
 -- IT ENDS
 rank : Doing → ℕ
@@ -46,10 +48,10 @@ left its d = rank d
 left belows d = 1
 left none d = 0
 
-fell : (x y : Next Load Value Reply) (b d : Doing) (k : ℕ) → Is x b y d → left (after y) d < k → left (after x) b < k
+fell : (x y : Next PageCall Value Reply) (b d : Doing) (k : ℕ) → Is x b y d → left (after y) d < k → left (after x) b < k
 fell x y b d k h l = rw (h .0, h .1) l
 
-start-falls : (a : Doing) (x : Next Load Value Reply) (b : Doing) → StartsAt a x b → left (after x) b < rank a
+start-falls : (a : Doing) (x : Next PageCall Value Reply) (b : Doing) → StartsAt a x b → left (after x) b < rank a
 unfolding rank left
 start-falls Rising x b h = fell x _ b _ _ h (lit< tt)
 start-falls (Said true) x b h = fell x _ b _ _ h (lit< tt)
@@ -58,7 +60,7 @@ start-falls Asked x b h = fell x _ b _ _ h (lit< tt)
 start-falls Loading x b h = fell x _ b _ _ h (lit< tt)
 start-falls Resting x b h = fell x _ b _ _ h (lit< tt)
 
-hear-falls : (x : Next Load Value Reply) (b : Doing) → HearsAt x b → left (after x) b < 1
+hear-falls : (x : Next PageCall Value Reply) (b : Doing) → HearsAt x b → left (after x) b < 1
 unfolding rank left
 hear-falls x b h = fell x _ b _ _ h (lit< tt)
 
@@ -73,7 +75,7 @@ abbrev Still : Connection → Type 0
 Still t = t .running ≡ Idle
 
 module _ (size : ℕ) where
-  abbrev Inv : Place Session Load Call Value (Unit {0}) → Connection → Type 0
+  abbrev Inv : Place Session PageCall Call Value Pages → Connection → Type 0
   Inv (down s) t = Still t
   Inv (below a s) t = (a .doing ≡ Rising) × Still t
   Inv (raised a s) t = (a .doing ≡ Rising) × Still t
@@ -82,21 +84,21 @@ module _ (size : ℕ) where
   Inv (begun c us a s) t = (us ≡ []) × (a .doing ≡ saidOf (c .it) (length (c .bytes))) × Still t
   Inv (midst c us a d s) t = ⊥
 
-  abbrev Leads : With Call → List (With Value) → Next Load Value Reply → Session → Connection → Type 0
-  Leads c us x b t = Led (readerJudge size) (tables built size) sessionLayer Inv c us x b tt t
+  abbrev Leads : With Call → List (With Value) → Next PageCall Value Reply → Session → Pages → Connection → Type 0
+  Leads c us x b s t = Led (pagesJudge size) (tables built size) sessionLayer Inv c us x b s t
 
   abbrev Answer : With Call → Connection → ℕ → Connection → Type 0
   Answer c t k u = Answered built size c t [] (and (No k) []) u
 
-  raised-at : (a b : Session) (x : Next Load Value Reply) (t : Connection) → a .doing ≡ Rising → Still t → StartsAt (a .doing) x (b .doing) → Inv (up sessionLayer x b tt) t
-  raised-at a b x t e h q = let z : StartsAt Rising x (b .doing) = subst (λ d. StartsAt d x (b .doing)) e q in rw (z .0) h
+  raised-at : (a b : Session) (x : Next PageCall Value Reply) (s : Pages) (t : Connection) → a .doing ≡ Rising → Still t → StartsAt (a .doing) x (b .doing) → Inv (up sessionLayer x b s) t
+  raised-at a b x s t e h q = let z : StartsAt Rising x (b .doing) = subst (λ d. StartsAt d x (b .doing)) e q in rw (z .0) h
 
-  heard-at : (b : Session) (x : Next Load Value Reply) (t : Connection) → Still t → HearsAt x (b .doing) → Inv (up sessionLayer x b tt) t
-  heard-at b x t h q = rw (q .0) h
+  heard-at : (b : Session) (x : Next PageCall Value Reply) (s : Pages) (t : Connection) → Still t → HearsAt x (b .doing) → Inv (up sessionLayer x b s) t
+  heard-at b x s t h q = rw (q .0) h
 
   -- an answer by number that leads to a state in which no query runs
-  refused : (c : With Call) (us : List (With Value)) (x : Next Load Value Reply) (b : Session) (t u : Connection) (k : ℕ) → us ≡ [] → x ≡ Give (No k) → Still u → Answer c t k u → Leads c us x b t
-  refused c us x b t u k e q h w = rw (q, e) (u, w, h)
+  refused : (c : With Call) (us : List (With Value)) (x : Next PageCall Value Reply) (b : Session) (s : Pages) (t u : Connection) (k : ℕ) → us ≡ [] → x ≡ Give (No k) → Still u → Answer c t k u → Leads c us x b s t
+  refused c us x b s t u k e q h w = rw (q, e) (u, w, h)
 
   -- with no query running, a row asked for is refused by 13
   next-still : (c : With Call) (r : Running) (t : Connection) → r ≡ Idle → c .it ≡ NextRow → t .running ≡ r → Answer c t 13 (idle t)
@@ -108,26 +110,26 @@ module _ (size : ℕ) where
         allowed = rw q (subst (λ v. Answers built size WantsRow t (next v t .reply) (next v t .conn)) (h ∙ e) (nexts t));
       }
 
-  said-at : (c : With Call) (us : List (With Value)) (x : Next Load Value Reply) (b : Session) (t : Connection) (long : Bool) → c .it ≡ Say → ltb 4096 (length (c .bytes)) ≡ long → us ≡ [] → Still t → StartsAt (Said long) x (b .doing) → Leads c us x b t
-  said-at c us x b t true e l n h q =
-      refused c us x b t (idle t) 10 n (q .0) refl (record { reply = Refuses 10; says = refuses 10; allowed = rw e (tooLong (c .bytes) t (ltb-true 4096 (length (c .bytes)) l)) })
-  said-at c us x b t false e l n h q =
-      refused c us x b t (idle t) 1 n (q .0) refl (record { reply = Refuses 1; says = refuses 1; allowed = rw e (readsNot (c .bytes) t (ltb-false 4096 (length (c .bytes)) l) (λ s r. tt)) })
+  said-at : (c : With Call) (us : List (With Value)) (x : Next PageCall Value Reply) (b : Session) (s : Pages) (t : Connection) (long : Bool) → c .it ≡ Say → ltb 4096 (length (c .bytes)) ≡ long → us ≡ [] → Still t → StartsAt (Said long) x (b .doing) → Leads c us x b s t
+  said-at c us x b s t true e l n h q =
+      refused c us x b s t (idle t) 10 n (q .0) refl (record { reply = Refuses 10; says = refuses 10; allowed = rw e (tooLong (c .bytes) t (ltb-true 4096 (length (c .bytes)) l)) })
+  said-at c us x b s t false e l n h q =
+      refused c us x b s t (idle t) 1 n (q .0) refl (record { reply = Refuses 1; says = refuses 1; allowed = rw e (readsNot (c .bytes) t (ltb-false 4096 (length (c .bytes)) l) (λ st r. tt)) })
 
-  begins-at : (c : With Call) (k : Call) (us : List (With Value)) (x : Next Load Value Reply) (b : Session) (t : Connection) → c .it ≡ k → us ≡ [] → Still t → StartsAt (saidOf k (length (c .bytes))) x (b .doing) → Leads c us x b t
-  begins-at c Say us x b t e n h q = said-at c us x b t (ltb 4096 (length (c .bytes))) e refl n h q
-  begins-at c NextRow us x b t e n h q = refused c us x b t (idle t) 13 n (q .0) refl (next-still c Idle t refl e h)
+  begins-at : (c : With Call) (k : Call) (us : List (With Value)) (x : Next PageCall Value Reply) (b : Session) (s : Pages) (t : Connection) → c .it ≡ k → us ≡ [] → Still t → StartsAt (saidOf k (length (c .bytes))) x (b .doing) → Leads c us x b s t
+  begins-at c Say us x b s t e n h q = said-at c us x b s t (ltb 4096 (length (c .bytes))) e refl n h q
+  begins-at c NextRow us x b s t e n h q = refused c us x b s t (idle t) 13 n (q .0) refl (next-still c Idle t refl e h)
 
-  stands : StandingAbove (readerJudge size) (tables built size) sessionLayer size
+  stands : StandingAbove (pagesJudge size) (tables built size) sessionLayer size
   stands = record {
     Inv = Inv;
     start = refl;
     wakes = λ a s t h q. (q, h);
     rose = λ a s t h. h;
-    raises = λ a x b s t h q. raised-at a b x t (h .0) (h .1) q;
-    liftsOn = λ a c vs r x b s u t h y q. heard-at b x t h q;
+    raises = λ a x b s t h q. raised-at a b x s t (h .0) (h .1) q;
+    liftsOn = λ a c vs r x b s u t h y q. heard-at b x u t h q;
     takes = λ a c b s t h q. (refl, q, h);
-    begins = λ c us a x b s t h q. begins-at c (c .it) us x b t refl (h .0) (h .2) (subst (λ d. StartsAt d x (b .doing)) (h .1) q);
+    begins = λ c us a x b s t h q. begins-at c (c .it) us x b s t refl (h .0) (h .2) (subst (λ d. StartsAt d x (b .doing)) (h .1) q);
     goes = λ c us a d vs r x b s u t h y q. absurd h;
     belowCut = λ a s t h. refl;
     raisedCut = λ a s t h. refl;
@@ -141,6 +143,6 @@ module _ (size : ℕ) where
 
 pub engine-whole : EngineWhole
 engine-whole =
-    whole-inside (λ m. m .tower) (over readerEngine sessionLayer) (tables built)
-    (layers-compose Reader Load Never Loaded Session Call Value Reply readerJudge (tables built) readerEngine sessionLayer reader-whole
-    (record { keeps = λ size h. keeps-above (readerJudge size) (tables built size) sessionLayer size (stands size); ends = λ size h. session-ends size }))
+    whole-inside (λ m. m .tower) (over pagesEngine sessionLayer) (tables built)
+    (layers-compose (Over Pager Frames) PageCall Never PageReply Session Call Value Reply pagesJudge (tables built) pagesEngine sessionLayer pages-whole
+    (record { keeps = λ size h. keeps-above (pagesJudge size) (tables built size) sessionLayer size (stands size); ends = λ size h. session-ends size }))

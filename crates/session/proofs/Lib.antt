@@ -1,2 +1,1 @@
-mod Sectors
 mod Keeps

@@ -8,8 +8,9 @@ use lib.ListN.{length}
 use Rattle.device.specs.Layers.{Layer}
 use Rattle.device.specs.declared.Next.{Next}
 use Rattle.device.specs.declared.Next.the-variants.{Call as Calls, Give}
-use Rattle.session.specs.declared.reader.Load.{Load}
-use Rattle.session.specs.declared.reader.Loaded.{Loaded}
+use Rattle.pages.specs.declared.frames.PageCall.{PageCall}
+use Rattle.pages.specs.declared.frames.PageCall.the-variants.{Get}
+use Rattle.pages.specs.declared.frames.PageReply.{PageReply}
 use Rattle.session.specs.declared.statement.Doing.{Doing}
 use Rattle.session.specs.declared.statement.Doing.the-variants.{Rising, Loading, Resting, Said, Asked}
 use Rattle.session.specs.declared.statement.Session.{Session}
@@ -24,15 +25,15 @@ abbrev pub saidOf : Call → ℕ → Doing
 saidOf Say n = Said (ltb 4096 n)
 saidOf NextRow n = Asked
 
--- the header is in sector 0
-abbrev pub header : Load
-header = record { sector = 0 }
+-- the header is page 0
+abbrev pub header : PageCall
+header = Get 0
 
 -- what it does next, and where it is then
-abbrev pub Is : Next Load Value Reply → Doing → Next Load Value Reply → Doing → Type 0
+abbrev pub Is : Next PageCall Value Reply → Doing → Next PageCall Value Reply → Doing → Type 0
 Is x b y d = (x ≡ y) × (b ≡ d)
 
-abbrev pub StartsAt : Doing → Next Load Value Reply → Doing → Type 0
+abbrev pub StartsAt : Doing → Next PageCall Value Reply → Doing → Type 0
 StartsAt Rising x b = Is x b (Calls header) Loading
 StartsAt (Said true) x b = Is x b (Give (No 10)) Resting
 StartsAt (Said false) x b = Is x b (Give (No 1)) Resting
@@ -42,10 +43,10 @@ StartsAt Loading x b = Is x b (Give (No 13)) Resting
 StartsAt Resting x b = Is x b (Give (No 13)) Resting
 
 -- the header was read
-abbrev pub HearsAt : Next Load Value Reply → Doing → Type 0
+abbrev pub HearsAt : Next PageCall Value Reply → Doing → Type 0
 HearsAt x b = Is x b (Give (Done 0)) Resting
 
-abbrev pub sessionLayer : Layer Session Load Loaded Call Value Reply
+abbrev pub sessionLayer : Layer Session PageCall PageReply Call Value Reply
 sessionLayer = record {
   Wakes = λ size a. a .doing ≡ Rising;
   Takes = λ a c b. b .doing ≡ saidOf (c .it) (length (c .bytes));

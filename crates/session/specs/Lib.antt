@@ -1,3 +1,2 @@
-pub mod Reader
 pub mod Layer
 pub mod Promise

@@ -4,7 +4,9 @@ use mathlib.Core.Bool.{Bool, false}
 use mathlib.Core.List.{List, [], map, reverse}
 use Prim.Native.Nat.{ℕ}
 use lib.IntN.{ℤ}
-use Rattle.device.specs.Device.{With, Engine as Store, Judge}
+use Rattle.device.specs.Device.{With, Engine as Store, Judge, Sized}
+use Rattle.std.specs.declared.result.Result.{Result}
+use Rattle.std.specs.declared.result.Result.the-variants.{Ok, Err}
 use Rattle.device.specs.Runs.{Whole}
 use Rattle.device.specs.Layers.{over}
 use Rattle.device.specs.Inside.{inside}
@@ -12,7 +14,7 @@ use Rattle.meaning.specs.Value.{Value as Worth, Null as NullWorth, Num, Text as
 use Rattle.meaning.specs.Tree.{Statement}
 use Rattle.meaning.specs.Meaning.{blank}
 use Rattle.meaning.specs.Session.{Call as Spoken, Say as SaysText, Next as WantsRow, Reply as Told, No as Refuses, Done as HasDone, Begun as Begins, Gives, End as Ends, Full as IsFull, Connection, fresh, Answers}
-use Rattle.session.specs.Reader.{readerEngine}
+use Rattle.pages.specs.Model.{pagesEngine}
 use Rattle.session.specs.Layer.{sessionLayer}
 use Rattle.session.specs.declared.Call.{Call}
 use Rattle.session.specs.declared.Call.the-variants.{Say, Next}
@@ -21,6 +23,8 @@ use Rattle.session.specs.declared.Value.the-variants.{Null, Number, Text}
 use Rattle.session.specs.declared.Reply.{Reply}
 use Rattle.session.specs.declared.Reply.the-variants.{No, Done, Begun, Row, End, Full}
 use Rattle.session.specs.declared.Engine.{Engine}
+use Rattle.session.specs.declared.Unopened.{Unopened}
+use Rattle.session.specs.declared.Unopened.the-variants.{Size, Memory}
 
 -- what a call says
 abbrev pub callOf : Call → List ℕ → Spoken
@@ -61,7 +65,13 @@ built s = false
 
 -- the engine, as the contracts of its functions have it
 abbrev pub engineOf : Store Engine Call Value Reply
-engineOf = inside (λ m. m .tower) (over readerEngine sessionLayer)
+engineOf = inside (λ m. m .tower) (over pagesEngine sessionLayer)
+
+-- what making it answers: an engine for a device of so many sectors; refused for its size only where no device has it
+abbrev pub OpenedBy : ℕ → Result Engine Unopened → Type 0
+OpenedBy size (Ok e) = engineOf .Opens size e
+OpenedBy size (Err Size) = Sized size → ⊥
+OpenedBy size (Err Memory) = Sized size
 
 -- WHOLE, for the statements that are built
 abbrev pub EngineWhole : Type 0

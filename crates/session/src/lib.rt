@@ -1,7 +1,7 @@
 // The engine: what people say to the tables, answered on a device. It does no input or output; it asks for one thing at a
 // time, and a driver does what is asked, on a file, in memory or in firmware.
 //
-//     let mut engine = Engine::open(size)?;       a store for a device of so many sectors, yet to come up
+//     let mut engine = Engine::open(heap, size)?; a store for a device of so many sectors, yet to come up
 //     engine.step(&given) until Ask::Answer       it comes up by its own reading
 //     engine.say(text) or engine.next()           begins a call
 //     engine.step(&given) until Ask::Answer       `given` is the sector that was read last
@@ -11,24 +11,26 @@
 // ends the call. Power may fail between any two asks: make a new engine then, and step it until it answers.
 //
 // What is promised of it is `Whole`, on the contract of `Engine::open`: every answer over every list of calls and cuts is
-// one that the written meaning gives, nothing outside the device is asked for, and every call ends. It stands on `device`
-// (what a device, a cut and a layer are) and on `meaning`.
+// one that the written meaning gives, nothing outside the device is asked for, and every call ends. It stands on `meaning`,
+// on `device` (what a device, a cut and a layer are), and on the specification of `pages`.
 ghost use mathlib.Core.Path.{_≡_};
 ghost use mathlib.Core.List.{[]};
 ghost use Prim.Native.Nat.{ℕ};
-ghost use Rattle.device.specs.Device.{and, Sized};
-ghost use Rattle.std.specs.Results.{Cases};
-ghost use Rattle.session.specs.Promise.{engineOf, EngineWhole};
+ghost use Rattle.device.specs.Device.{and};
+ghost use Rattle.session.specs.Promise.{engineOf, EngineWhole, OpenedBy};
 use device::Ask;
 use device::Over;
 use device::OverStore;
 use device::Store;
+use pager::state::Pager;
+use pager::state::work::PagerStore;
+use pages::frames::Frames;
+use pages::frames::work::FramesLayer;
+use std::alloc::AllocError;
+use std::alloc::Global;
 
-pub mod reader;
 pub mod statement;
 
-use reader::Reader;
-use reader::ReaderStore;
 use statement::Session;
 use statement::SessionLayer;
 
@@ -64,26 +66,34 @@ pub enum Reply {
     Full,
 }
 
-// A device that is no multiple of a page, or too small or too large: not from 4,096 to 2^40 sectors.
+// Why there is no engine.
 #[derive(Clone, Copy)]
-pub struct BadSize;
+pub enum Unopened {
+    // the device has fewer than 4,096 or more than 2^40 sectors
+    Size,
+    // there is not the memory that it will need
+    Memory,
+}
 
 #[derive(Drop)]
 pub struct Engine {
-    tower: Over<Reader, Session>,
+    tower: Over<Over<Pager, Frames>, Session>,
 }
 
 impl Engine {
     // The engine for a device of so many sectors, yet to come up. All memory that it will ever need is taken here.
-    pub fn open(size: u64) -> Result<Engine, BadSize>
-        ensures opened { λ r. ⌜ Cases r (λ e. engineOf .Opens size e) (λ _. (Sized size → ⊥)) ⌝ }
+    pub fn open(heap: Global, size: u64) -> Result<Engine, Unopened>
+        ensures opened { λ r. ⌜ OpenedBy size r ⌝ }
         ensures whole { λ _. ⌜ EngineWhole ⌝ }
     {
         if size < 4096 || size > 1099511627776 {
-            return Err(BadSize);
+            return Err(Unopened::Size);
         }
+        let Ok(pages) = pages::frames::work::open(heap, size) else {
+            return Err(Unopened::Memory);
+        };
         Ok(Engine {
-            tower: Over::opening(Reader::new(size), Session::new()),
+            tower: Over::opening(pages, Session::new()),
         })
     }
 

@@ -1,4 +1,4 @@
-// The session: a layer that takes statements and asks for rows, and answers them. As it comes up it reads the header. No
+// The session: a layer that takes statements and asks for rows, and answers them. As it comes up it reads the header page. No
 // statement is built yet: a text of more than 4,096 bytes is refused by 10, any other by 1, and `next` by 13.
 ghost use mathlib.Core.Path.{_≡_};
 ghost use mathlib.Core.List.{[]};
@@ -7,10 +7,13 @@ ghost use Rattle.session.specs.Layer.{sessionLayer, StartsAt, HearsAt, saidOf}
 use crate::Call;
 use crate::Reply;
 use crate::Value;
-use crate::reader::Load;
-use crate::reader::Loaded;
 use device::Layer;
 use device::Next;
+use pages::frames::PageCall;
+use pages::frames::PageReply;
+
+// The page that says what is kept.
+pub const HEADER: u64 = 0;
 
 // The bytes that a statement may have.
 pub const LONGEST: usize = 4096;
@@ -42,11 +45,11 @@ fn taken(call: Call, len: usize) -> Doing
 }
 
 // What the session does when it is its turn, and where it is then.
-fn started(doing: Doing) -> (Next<Load, Value, Reply>, Doing)
+fn started(doing: Doing) -> (Next<PageCall, Value, Reply>, Doing)
     ensures { λ r. ⌜ StartsAt doing (r .0) (r .1) ⌝ }
 {
     match doing {
-        Doing::Rising => (Next::Call(Load { sector: 0 }), Doing::Loading),
+        Doing::Rising => (Next::Call(PageCall::Get(HEADER)), Doing::Loading),
         Doing::Said(true) => (Next::Give(Reply::No(10)), Doing::Resting),
         Doing::Said(false) => (Next::Give(Reply::No(1)), Doing::Resting),
         Doing::Asked | Doing::Loading | Doing::Resting => {
@@ -55,8 +58,8 @@ fn started(doing: Doing) -> (Next<Load, Value, Reply>, Doing)
     }
 }
 
-// What comes after an answer of the store below: the header was read, and the session is up.
-fn heard() -> (Next<Load, Value, Reply>, Doing)
+// What comes after an answer of the store below: the header page was read, and the session is up.
+fn heard() -> (Next<PageCall, Value, Reply>, Doing)
     ensures { λ r. ⌜ HearsAt (r .0) (r .1) ⌝ }
 {
     (Next::Give(Reply::Done(0)), Doing::Resting)
@@ -73,9 +76,9 @@ impl Session {
 }
 
 pub impl Layer for Session as SessionLayer {
-    type Below = Load;
+    type Below = PageCall;
 
-    type Heard = Loaded;
+    type Heard = PageReply;
 
     type Call = Call;
 
@@ -89,13 +92,13 @@ pub impl Layer for Session as SessionLayer {
         self.doing = taken(c, bytes.len());
     }
 
-    fn start(&mut self) -> Next<Load, Value, Reply> {
+    fn start(&mut self) -> Next<PageCall, Value, Reply> {
         let (next, doing) = started(self.doing);
         self.doing = doing;
         next
     }
 
-    fn hear(&mut self, r: Loaded, bytes: &[u8]) -> Next<Load, Value, Reply> {
+    fn hear(&mut self, r: PageReply, bytes: &[u8]) -> Next<PageCall, Value, Reply> {
         let (next, doing) = heard();
         self.doing = doing;
         next

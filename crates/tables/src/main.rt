@@ -8,6 +8,7 @@ use console::drive::answer;
 use console::lines::read_line;
 use session::Engine;
 use session::Reply;
+use session::Unopened;
 use std::alloc::Global;
 use std::env;
 use std::io;
@@ -107,12 +108,13 @@ fn refuse(rt: &LibcRuntime, path: &str, why: &str, e: io::Error) -> Result<(), i
     Err(e)
 }
 
-// The engine for a disk, if it is one: whole sectors, neither too few nor too many.
-fn engine_for(disk: &FileDisk) -> Option<Engine> {
-    match Engine::open(disk.sectors()?) {
-        Ok(engine) => Some(engine),
-        Err(_) => None,
-    }
+fn refuse_size(rt: &LibcRuntime, path: &str, bytes: u64) -> Result<(), io::Error> {
+    let why = format!(
+        rt.alloc(),
+        "{bytes} bytes are no device, which has a multiple of 512 and at least 2097152"
+    )?;
+    let e = io::Error::from(io::ErrorKind::InvalidData);
+    refuse(rt, path, why.as_str(), e)
 }
 
 fn run(rt: &LibcRuntime, path: &str) -> Result<(), io::Error> {
@@ -120,14 +122,14 @@ fn run(rt: &LibcRuntime, path: &str) -> Result<(), io::Error> {
         Ok(disk) => disk,
         Err(e) => return refuse(rt, path, format!(rt.alloc(), "{e}")?.as_str(), e),
     };
-    let Some(engine) = engine_for(&disk) else {
-        let bytes = disk.bytes();
-        let why = format!(
-            rt.alloc(),
-            "{bytes} bytes are no device, which has a multiple of 512 and at least 2097152"
-        )?;
-        let e = io::Error::from(io::ErrorKind::InvalidData);
-        return refuse(rt, path, why.as_str(), e);
+    // a part of a sector makes it no device
+    let engine = match Engine::open(rt.alloc(), disk.sectors().unwrap_or(0)) {
+        Ok(engine) => engine,
+        Err(Unopened::Size) => return refuse_size(rt, path, disk.bytes()),
+        Err(Unopened::Memory) => {
+            let e = io::Error::from(io::ErrorKind::OutOfMemory);
+            return refuse(rt, path, "not enough memory for a device of this size", e);
+        }
     };
     match serve(rt, engine, disk) {
         Ok(()) => Ok(()),

@@ -11,5 +11,8 @@ returns-then-size-lt4096 c =
       whole = engine-whole;
     }
 
+pub returns-in-rest : need.returns-in-rest
+returns-in-rest c = record { opened = record { least = omega arith; most = omega arith }; whole = engine-whole }
+
 pub returns : need.returns
-returns c = record { opened = c .opening .ensures (c .args .size) (c .new .ensures) (c .new-2 .ensures (c .args .size)); whole = engine-whole }
+returns c = record { opened = c .opening .ensures (c .args .size) (c .in-Ok .ensures tt .opened) (c .new .ensures (c .args .size)); whole = engine-whole }
