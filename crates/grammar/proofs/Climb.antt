@@ -74,12 +74,16 @@ each = (s, (s1, (c, (c, (c, (c, (c, (c, (p, (p, (p, (m, tt))))))))))))
   where
     s : Sound 0 0
     s = (omega arith, omega arith, λ h. omega arith)
+
     s1 : Sound 1 1
     s1 = (omega arith, omega arith, λ h. omega arith)
+
     c : Sound 3 4
     c = (omega arith, omega arith, λ h. absurd (omega arith))
+
     p : Sound 4 4
     p = (omega arith, omega arith, λ h. absurd (omega arith))
+
     m : Sound 5 5
     m = (omega arith, omega arith, λ h. absurd (omega arith))
 
@@ -142,6 +146,7 @@ more-level (suc f) k n e (t ∷ r) h = go (joint t) (h .0)
   where
     both : (l : ℕ) → l ≤ n → leb l (suc n) ≡ leb l n
     both l h = le-leb l (suc n) (omega arith) ∙ sym (le-leb l n h)
+
     go : (j : Joint) → binds j ≤ n → goes (expr f) (more f) k (part (suc n) e) t r j ≡ goes (expr f) (more f) k (part n e) t r j
     go ends h = refl
     go tests h = ap (λ v. cond (leb k 3 && v) (andThen (nullTest r) (λ b us. more f k (part 3 (tested b e)) us)) (gets e (t ∷ r))) (both 4 h)
@@ -169,10 +174,14 @@ fine-join n l t op ts us a b is dot under fa fb k kn r s f m =
   where
     go : (h : ℕ) → length (t ∷ (us ++ r)) < h → expr f k ((ts ++ t ∷ us) ++ r) ≡ more h k (part l a) (t ∷ (us ++ r)) → (h : ℕ) × (length r < h) × (expr f k ((ts ++ t ∷ us) ++ r) ≡ more h k (part n (op a b)) r)
     go zero q p = absurd (omega arith)
-    go (suc h) q p = (h, omega (arith, length-append us r), p
-        ∙ ap (goes (expr h) (more h) k (part l a) t (us ++ r)) is
-        ∙ ap (λ v. cond v (andThen (expr h (suc n) (us ++ r)) (λ b us. more h k (part n (op a b)) us)) (gets a (t ∷ (us ++ r)))) (both-leb k n l kn)
-        ∙ then-is (λ b us. more h k (part n (op a b)) us) (done (suc n) us b fb r (stops-more n (suc n) r (omega arith) s) (idle-next n (suc n) r (omega arith) s) h (omega arith)) refl)
+    go (suc h) q p = (
+      h,
+      omega (arith, length-append us r),
+      p
+          ∙ ap (goes (expr h) (more h) k (part l a) t (us ++ r)) is
+          ∙ ap (λ v. cond v (andThen (expr h (suc n) (us ++ r)) (λ b us. more h k (part n (op a b)) us)) (gets a (t ∷ (us ++ r)))) (both-leb k n l kn)
+          ∙ then-is (λ b us. more h k (part n (op a b)) us) (done (suc n) us b fb r (stops-more n (suc n) r (omega arith) s) (idle-next n (suc n) r (omega arith) s) h (omega arith)) refl,
+    )
 
 pub is-joint : joint (Word kIs) ≡ tests
 unfolding joint isWord sameName
@@ -191,10 +200,14 @@ fine-test ts us a b test fa k kn r s f m =
   where
     go : (h : ℕ) → length (Word kIs ∷ (us ++ r)) < h → expr f k ((ts ++ Word kIs ∷ us) ++ r) ≡ more h k (part 4 a) (Word kIs ∷ (us ++ r)) → (h : ℕ) × (length r < h) × (expr f k ((ts ++ Word kIs ∷ us) ++ r) ≡ more h k (part 3 (tested b a)) r)
     go zero q p = absurd (omega arith)
-    go (suc h) q p = (h, omega (arith, length-append us r), p
-        ∙ ap (goes (expr h) (more h) k (part 4 a) (Word kIs) (us ++ r)) is-joint
-        ∙ ap (λ v. cond v (andThen (nullTest (us ++ r)) (λ b us. more h k (part 3 (tested b a)) us)) (gets a (Word kIs ∷ (us ++ r)))) (both-leb k 3 4 kn)
-        ∙ then-is (λ b us. more h k (part 3 (tested b a)) us) (test r) refl)
+    go (suc h) q p = (
+      h,
+      omega (arith, length-append us r),
+      p
+          ∙ ap (goes (expr h) (more h) k (part 4 a) (Word kIs) (us ++ r)) is-joint
+          ∙ ap (λ v. cond v (andThen (nullTest (us ++ r)) (λ b us. more h k (part 3 (tested b a)) us)) (gets a (Word kIs ∷ (us ++ r)))) (both-leb k 3 4 kn)
+          ∙ then-is (λ b us. more h k (part 3 (tested b a)) us) (test r) refl,
+    )
 
 pub is-null : (r : List Token) → nullTest (Word kNull ∷ r) ≡ gets false r
 unfolding choose isWord sameName
@@ -203,4 +216,3 @@ is-null r = refl
 pub is-no-null : (r : List Token) → nullTest (Word kNot ∷ Word kNull ∷ r) ≡ gets true r
 unfolding choose isWord sameName
 is-no-null r = refl
-

@@ -208,7 +208,7 @@ unfolding choose isWord sameName
 some-groups f us vs r es h a b = then-is (λ es vs. andThen (condition kHaving (expr f) vs) (λ h ws. gets (record { are = true; by = es; having = h }) ws)) a (then-is (λ h ws. gets (record { are = true; by = es; having = h }) ws) b refl)
 
 filters : (f : ℕ) (d : Bool) (es : List Expr) (from : List Source) (v0 v1 v2 v3 r : List Token) (c : Expr) (gr : Groups) (o : List Key) (l : Limit) →
-  condition kWhere (expr f) v0 ≡ gets c v1 → groups (expr f) (exprs f) v1 ≡ gets gr v2 → orders (keys f) v2 ≡ gets o v3 → limits v3 ≡ gets l r → filtered (expr f) (exprs f) (keys f) d es from v0 ≡ gets (asked d es from c gr o l) r
+    condition kWhere (expr f) v0 ≡ gets c v1 → groups (expr f) (exprs f) v1 ≡ gets gr v2 → orders (keys f) v2 ≡ gets o v3 → limits v3 ≡ gets l r → filtered (expr f) (exprs f) (keys f) d es from v0 ≡ gets (asked d es from c gr o l) r
 unfolding filtered
 filters f d es from v0 v1 v2 v3 r c gr o l p1 p2 p3 p4 =
     then-is (λ c us. andThen (groups (expr f) (exprs f) us) (λ g vs. andThen (orders (keys f) vs) (λ o ws. andThen (limits ws) (λ l zs. gets (asked d es from c g o l) zs)))) p1
@@ -228,7 +228,7 @@ tail-simple ws os ls c ks l fc fo fl d es from r a f m =
     (ap (filtered (expr f) (exprs f) (keys f) d es from) same ∙ filters f d es from _ _ _ _ r _ _ _ _ (wh .0) (no-groups f _ a3) (or' .0) (li .0), subst (After 1) (sym same) (wh .1))
 
 tail-grouped : (ws gs hs os ls : List Token) (c h : Expr) (grp : Exprs) (ks : Keys) (l : Limit) → FineC 1 kWhere ws c → (fg : FineXs gs grp) → FineC 3 kHaving hs h → (fo : FineOs os ks) → Limits ls l →
-  Tail (ws ++ Word kGroup ∷ Word kBy ∷ (gs ++ hs ++ os ++ ls)) c (record { are = true; by = fg .0; having = h }) (fo .0) l
+    Tail (ws ++ Word kGroup ∷ Word kBy ∷ (gs ++ hs ++ os ++ ls)) c (record { are = true; by = fg .0; having = h }) (fo .0) l
 tail-grouped ws gs hs os ls c h grp ks l fc fg fh fo fl d es from r a f m =
     let v1 = gs ++ (hs ++ (os ++ (ls ++ r))) in
     let same : (ws ++ Word kGroup ∷ Word kBy ∷ (gs ++ hs ++ os ++ ls)) ++ r ≡ ws ++ Word kGroup ∷ Word kBy ∷ v1 = simp append-assoc in
@@ -244,14 +244,14 @@ tail-grouped ws gs hs os ls c h grp ks l fc fg fh fo fl d es from r a f m =
     (ap (filtered (expr f) (exprs f) (keys f) d es from) same ∙ filters f d es from _ _ _ _ r _ _ _ _ (wh .0) (some-groups f _ _ _ _ _ xs (ha .0)) (or' .0) (li .0), subst (After 1) (sym same) (wh .1))
 
 questions : (f : ℕ) (v1 v2 v3 v4 r : List Token) (d : Bool) (es : List Expr) (from : List Source) (q : Query) → choose (isWord kDistinct) (gets true) (gets false) v1 ≡ gets d v2 → exprs f v2 ≡ gets es (Word kFrom ∷ v3) → sources f v3 ≡ gets from v4 →
-  filtered (expr f) (exprs f) (keys f) d es from v4 ≡ gets q r → asks f (Word kSelect ∷ v1) ≡ gets q r
+    filtered (expr f) (exprs f) (keys f) d es from v4 ≡ gets q r → asks f (Word kSelect ∷ v1) ≡ gets q r
 unfolding question choose isWord sameName
 questions f v1 v2 v3 v4 r d es from q p1 p2 p3 p4 =
     let next : Bool → List Expr → Reader Query = λ d es ws. past (isWord kFrom) (λ ys. andThen (sources f ys) (λ from zs. filtered (expr f) (exprs f) (keys f) d es from zs)) ws in
     then-is (λ d vs. andThen (exprs f vs) (next d)) p1 (then-is (next d) p2 (then-is (λ from zs. filtered (expr f) (exprs f) (keys f) d es from zs) p3 p4))
 
 query-fine : (ds xs fs tl : List Token) (d : Bool) (es : Exprs) (from : List Source) (c : Expr) (gr : Groups) (o : List Key) (l : Limit) → Distinct ds d → Starts xs → (fx : FineXs xs es) → Sources fs from → Tail tl c gr o l →
-  FineQ (Word kSelect ∷ (ds ++ xs ++ Word kFrom ∷ (fs ++ tl))) (asked d (fx .0) from c gr o l)
+    FineQ (Word kSelect ∷ (ds ++ xs ++ Word kFrom ∷ (fs ++ tl))) (asked d (fx .0) from c gr o l)
 query-fine ds xs fs tl d es from c gr o l fd st fx fs' ft r a f m =
     let v4 = tl ++ r in
     let v3 = fs ++ v4 in
@@ -266,7 +266,7 @@ query-fine ds xs fs tl d es from c gr o l fd st fx fs' ft r a f m =
     ∙ questions f (ds ++ v2) v2 v3 v4 r d (fx .0) from _ (distinct-fine fd v2 (starts-head xs (Word kFrom ∷ v3) st .1)) (fx .2 v2 (Word kFrom ∷ v3) refl 0 (0, omega arith, fromMark) f (omega arith)) (sources-fine fs' v4 1 (last .1) f (omega arith)) (last .0)
 
 same-query : (d : Bool) (es : List Expr) (es' : Exprs) (from : List Source) (c h : Expr) (b : Bool) (gs : List Expr) (gs' : Exprs) (o : List Key) (ks : Keys) (l : Limit) → toExprs es ≡ es' → toExprs gs ≡ gs' → toKeys o ≡ ks →
-  asked d es from c (record { are = b; by = gs; having = h }) o l ≡ query d es' from c (b || aggregatesAny es' || aggregatesKey ks) gs' h ks l
+    asked d es from c (record { are = b; by = gs; having = h }) o l ≡ query d es' from c (b || aggregatesAny es' || aggregatesKey ks) gs' h ks l
 same-query d es es' from c h b gs gs' o ks l p q r i = query d (p i) from c (b || aggregatesAny (p i) || aggregatesKey (r i)) (q i) h (r i) l
 
 no-exprs : toExprs [] ≡ tree.none
@@ -360,8 +360,8 @@ mutual
       let fo = fineO o in
       let same : fs ++ (ws ++ os ++ ls) ≡ fs ++ ws ++ os ++ ls = simp append-assoc in
       subst (FineQ (Word kSelect ∷ (ds ++ xs ++ Word kFrom ∷ (fs ++ ws ++ os ++ ls)))) (same-query d (fx .0) es from c one false [] tree.none (fo .0) ks l (fx .1) no-exprs (fo .1))
-        (subst (λ v. FineQ (Word kSelect ∷ (ds ++ xs ++ Word kFrom ∷ v)) (asked d (fx .0) from c (record { are = false; by = []; having = one }) (fo .0) l)) same
-          (query-fine ds xs fs (ws ++ os ++ ls) d es from c (record { are = false; by = []; having = one }) (fo .0) l a (xs-starts x) fx s (tail-simple ws os ls c ks l (fineW w') fo m)))
+      (subst (λ v. FineQ (Word kSelect ∷ (ds ++ xs ++ Word kFrom ∷ v)) (asked d (fx .0) from c (record { are = false; by = []; having = one }) (fo .0) l)) same
+      (query-fine ds xs fs (ws ++ os ++ ls) d es from c (record { are = false; by = []; having = one }) (fo .0) l a (xs-starts x) fx s (tail-simple ws os ls c ks l (fineW w') fo m)))
   fineQ (g.grouped {ds} {xs} {fs} {ws} {gs} {hs} {os} {ls} {d} {es} {grp} {from} {c} {h} {ks} {l} a x s w' y hv o m) =
       let fx = fineXs x in
       let fy = fineXs y in
@@ -369,5 +369,5 @@ mutual
       let tl = Word kGroup ∷ Word kBy ∷ (gs ++ hs ++ os ++ ls) in
       let same : fs ++ (ws ++ tl) ≡ fs ++ ws ++ tl = simp append-assoc in
       subst (FineQ (Word kSelect ∷ (ds ++ xs ++ Word kFrom ∷ (fs ++ ws ++ tl)))) (same-query d (fx .0) es from c h true (fy .0) grp (fo .0) ks l (fx .1) (fy .1) (fo .1))
-        (subst (λ v. FineQ (Word kSelect ∷ (ds ++ xs ++ Word kFrom ∷ v)) (asked d (fx .0) from c (record { are = true; by = fy .0; having = h }) (fo .0) l)) same
-          (query-fine ds xs fs (ws ++ tl) d es from c (record { are = true; by = fy .0; having = h }) (fo .0) l a (xs-starts x) fx s (tail-grouped ws gs hs os ls c h grp ks l (fineW w') fy (fineH hv) fo m)))
+      (subst (λ v. FineQ (Word kSelect ∷ (ds ++ xs ++ Word kFrom ∷ v)) (asked d (fx .0) from c (record { are = true; by = fy .0; having = h }) (fo .0) l)) same
+      (query-fine ds xs fs (ws ++ tl) d es from c (record { are = true; by = fy .0; having = h }) (fo .0) l a (xs-starts x) fx s (tail-grouped ws gs hs os ls c h grp ks l (fineW w') fy (fineH hv) fo m)))

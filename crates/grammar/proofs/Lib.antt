@@ -4,3 +4,6 @@ pub mod Marks
 pub mod Operands
 pub mod Complete
 pub mod Statements
+pub mod Sound
+pub mod Queries
+pub mod Whole

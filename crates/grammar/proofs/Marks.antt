@@ -162,4 +162,3 @@ quiet-desc r = (refl, refl)
 -- a whole expression
 pub whole : (ts : List Token) (e : Expr) → Fine 0 ts e → (v r : List Token) → v ≡ ts ++ r → Quiet r → (f : ℕ) → length v < f → expr f 0 v ≡ gets e r
 whole ts e fine v r same q f l = let s = quiet-stops r q in ap (expr f 0) same ∙ done 0 ts e fine r (s .0) (s .1) f (subst (λ u. length u < f) same l)
-

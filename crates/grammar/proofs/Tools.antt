@@ -73,7 +73,7 @@ pub gets-inv : {A : Type 0} {a b : A} {ts us : List Token} → gets a ts ≡ get
 gets-inv {a} {b} {ts} {us} h = (cc, cc)
 
 pub choose-inv : {A : Type 0} (p : Token → Bool) (y n : Reader A) (ts : List Token) {a : A} {r : List Token} → choose p y n ts ≡ gets a r →
-  ((t : Token) × (us : List Token) × (ts ≡ t ∷ us) × (p t ≡ true) × (y us ≡ gets a r)) ⊎ ((headIs p ts ≡ false) × (n ts ≡ gets a r))
+    ((t : Token) × (us : List Token) × (ts ≡ t ∷ us) × (p t ≡ true) × (y us ≡ gets a r)) ⊎ ((headIs p ts ≡ false) × (n ts ≡ gets a r))
 unfolding choose
 choose-inv p y n [] h = inr (refl, h)
 choose-inv p y n (t ∷ ts) {a} {r} h = go (p t) refl h
