@@ -1,9 +1,14 @@
 // The statements of the language as texts.
 mod nodes;
+mod parts;
 mod tokens;
+mod words;
 
+pub use nodes::Fold;
 pub use nodes::Node;
 pub use nodes::Nodes;
+pub use nodes::Op;
+pub use nodes::Question;
 pub use nodes::Span;
-pub use tokens::Place;
-pub use tokens::Tok;
+pub use nodes::Statement;
+pub use parts::Refusal;

@@ -79,6 +79,29 @@ pub enum Node {
     Set(Span, u16, u16),
 }
 
+// A read statement: names as parts of its bytes, expressions, queries and lists by their nodes.
+#[derive(Clone, Copy)]
+pub enum Statement {
+    // the table, its columns
+    CreateTable(Span, u16),
+    DropTable(Span),
+    // whether unique, the index, the table, the columns
+    CreateIndex(bool, Span, Span, u16),
+    DropIndex(Span),
+    Insert(Span, u16),
+    InsertFrom(Span, u16),
+    // the table, what is set, which rows
+    Update(Span, u16, u16),
+    Delete(Span, u16),
+    Select(u16),
+    Begin,
+    Commit,
+    Rollback,
+    Savepoint(Span),
+    RollbackTo(Span),
+    Release(Span),
+}
+
 // Room for the nodes of every statement: two for each of 4,096 bytes, and a few. Node 0 is none.
 #[derive(Drop)]
 pub struct Nodes {
