@@ -228,13 +228,22 @@ bracket x xs ks f ts = choose (isWord kSelect) (λ us. andThen (question x xs ks
 abbrev pub folded : Aggregate → Level → Reader Part
 folded g x ts = andThen (x 0 ts) (λ a us. past (isSign 41) (gets (part 7 (tree.aggregate g a))) us)
 
+abbrev pub negation : ℕ → Level → Reader Part
+negation k x ts = cond (leb k 2) (andThen (x 2 ts) (λ a vs. gets (part 2 (tree.not' a)) vs)) refuses
+
+abbrev pub existence : Level → Reader (List Expr) → Reader (List Key) → ℕ → Reader Part
+existence x xs ks f ts = past (isSign 40) (λ us. andThen (question x xs ks f us) (λ q vs. past (isSign 41) (gets (part 7 (tree.exists q))) vs)) ts
+
+abbrev pub counted : Level → Reader Part
+counted x ts = past (isSign 40) (choose (isSign 42) (past (isSign 41) (gets (part 7 tree.rowCount))) (folded Count x)) ts
+
 -- what begins with a keyword
 unfoldable pub keyed : Level → Reader (List Expr) → Reader (List Key) → ℕ → ℕ → Reader Part
 keyed x xs ks f k ts =
     choose (isWord kNull) (gets (part 7 (tree.lit Null)))
-    (choose (isWord kNot) (λ us. cond (leb k 2) (andThen (x 2 us) (λ a vs. gets (part 2 (tree.not' a)) vs)) refuses)
-    (choose (isWord kExists) (past (isSign 40) (λ us. andThen (question x xs ks f us) (λ q vs. past (isSign 41) (gets (part 7 (tree.exists q))) vs)))
-    (choose (isWord kCount) (past (isSign 40) (choose (isSign 42) (past (isSign 41) (gets (part 7 tree.rowCount))) (folded Count x)))
+    (choose (isWord kNot) (negation k x)
+    (choose (isWord kExists) (existence x xs ks f)
+    (choose (isWord kCount) (counted x)
     (choose (isWord kSum) (past (isSign 40) (folded Sum x))
     (choose (isWord kMin) (past (isSign 40) (folded Min x))
     (choose (isWord kMax) (past (isSign 40) (folded Max x)) refuse)))))) ts

@@ -7,10 +7,10 @@ use Prim.Native.Nat.{ℕ, zero, suc, _+_, _*_, _<_, _≤_}
 use lib.ListN.{length}
 use Rattle.meaning.specs.Tree as tree
 use Rattle.meaning.specs.Tree.{Name, Source, Limit, Expr, Exprs, Query, Col, Set, Statement, aggregates, aggregatesAny, aggregatesKey}
-use Rattle.meaning.specs.Text.{Token, Sign, kSelect, kDistinct, kFrom, kWhere, kGroup, kBy, kHaving, kOrder, kAsc, kDesc, kLimit, kOffset, kAnd, kOr, kNot, kIs, kNull, kExists, kCount, kSum, kMin, kMax, kCreate, kTable, kUnique, kIndex, kOn, kDrop, kInsert, kInto, kValues, kUpdate, kSet, kDelete, kBegin, kCommit, kRollback, kTo, kSavepoint, kRelease, kInt, kText, kAs}
+use Rattle.meaning.specs.Text.{Token, Sign, Word, kSelect, kDistinct, kFrom, kWhere, kGroup, kBy, kHaving, kOrder, kAsc, kDesc, kLimit, kOffset, kAnd, kOr, kNot, kIs, kNull, kExists, kCount, kSum, kMin, kMax, kCreate, kTable, kUnique, kIndex, kOn, kDrop, kInsert, kInto, kValues, kUpdate, kSet, kDelete, kBegin, kCommit, kRollback, kTo, kSavepoint, kRelease, kInt, kText, kAs}
 use Rattle.meaning.specs.Grammar.{Reads}
 use Rattle.grammar.specs.Reader as reader
-use Rattle.grammar.specs.Reader.{Got, refuses, gets, headIs, tailOf, aName, Key, Joint, ends, tests, joins, joint, toExprs, toKeys, single, oneColumn, Groups}
+use Rattle.grammar.specs.Reader.{Got, refuses, gets, headIs, tailOf, aName, Key, Joint, ends, tests, joins, joint, toExprs, toKeys, single, oneColumn, Groups, nullTest, tested}
 use Rattle.text.specs.Cut.{tokensAt, name, decimal, Short, part}
 use Rattle.text.specs.Stands.{filled, At, Stands, StandsExprs, StandsKeys, StandsQuery, StandsSources, StandsLimit, StandsCols, StandsNames, StandsRows, StandsSets, StandsFor, find}
 use Rattle.text.specs.declared.nodes.Span.{Span}
@@ -24,6 +24,9 @@ use Rattle.text.specs.declared.words.Infix.{Infix}
 use Rattle.text.specs.declared.words.Infix.the-variants as ix
 use Rattle.text.specs.declared.words.Counted.{Counted}
 use Rattle.text.specs.declared.parts.Part.{Part}
+use Rattle.text.specs.declared.parts.Next.{Next}
+use Rattle.text.specs.declared.parts.Next.the-variants as ways
+use Rattle.text.specs.declared.parts.Way.{Way}
 use Rattle.text.specs.declared.parts.Grouping.{Grouping}
 use Rattle.text.specs.declared.parts.Refusal.{Refusal}
 use Rattle.text.specs.declared.parts.Refusal.the-variants.{Unread, TooLong}
@@ -218,9 +221,67 @@ abbrev pub ReadsGroups : List ℕ → Nodes → Nodes → List Token → Got Gro
 ReadsGroups b t u ts g None = g ≡ refuses
 ReadsGroups b t u ts g (Some p) = Grouped b t u ts g p
 
--- new nodes over one or two others: what they stand for, if those stood for something
-pub record Made (t u : Nodes) (n i : ℕ) : Type 0 where
+-- the node, or two, over two sides stand for what the operator makes of them
+pub record Joined (t u : Nodes) (op : Infix) (x y i : ℕ) : Type 0 where
+  pub stands : (b : List ℕ) (d e : Expr) → Stands b (filled t) d x → Stands b (filled t) e y → x < length (filled t) → y < length (filled t) → Stands b (filled u) (makes op d e) i
   pub within : i < length (filled u)
-  pub above : length (filled t) ≤ i
   pub grown : Grown (filled t) (filled u)
-  pub few : length (filled u) ≤ length (filled t) + n
+  pub few : length (filled u) ≤ length (filled t) + 2
+
+-- a part stands for an expression of a level
+pub record Stood (b : List ℕ) (t : Nodes) (p : Part) (e : reader.Part) : Type 0 where
+  pub stands : Stands b (filled t) (e .it) (p .node)
+  pub counts : p .aggregates ≡ aggregates (e .it)
+  pub level : p .level ≡ e .level
+  pub within : p .node < length (filled t)
+
+-- a longer part, from the tokens ts on: what it stands for, by what the shorter one stood for
+pub record Longer (b : List ℕ) (t u : Nodes) (ts : List Token) (a p : Part) (Goes : reader.Part → reader.Part → Type 0) : Type 0 where
+  pub grown : Grown (filled t) (filled u)
+  pub few : length (filled u) + 2 * length (tokensAt b (p .after)) ≤ length (filled t) + 2 * length ts
+  pub goes : (e : reader.Part) → Stood b t a e → (d : reader.Part) × Goes e d × Stood b u p d
+
+abbrev pub Tested : List ℕ → Nodes → Nodes → List Token → Part → Next → Type 0
+Tested b t u ts a ways.Ends = ⊥
+Tested b t u ts a ways.Fails = nullTest ts ≡ refuses
+Tested b t u ts a (ways.Goes p) = (c : Bool) × (nullTest ts ≡ gets c (tokensAt b (p .after))) × Longer b t u (Word kIs ∷ ts) a p (λ e d. d ≡ reader.part 3 (tested c (e .it)))
+
+-- one turn of what goes on after a part, at a level
+abbrev pub Further : List ℕ → Nodes → Nodes → ℕ → ℕ → Part → Next → Type 0
+Further b t u k f a ways.Ends = ((e : reader.Part) → a .level ≡ e .level → reader.more (suc f) k e (tokensAt b (a .after)) ≡ gets (e .it) (tokensAt b (a .after))) × (t ≡ u)
+Further b t u k f a ways.Fails = (e : reader.Part) → a .level ≡ e .level → reader.more (suc f) k e (tokensAt b (a .after)) ≡ refuses
+Further b t u k f a (ways.Goes p) = Longer b t u (tokensAt b (a .after)) a p (λ e d. reader.more (suc f) k e (tokensAt b (a .after)) ≡ reader.more f k d (tokensAt b (p .after)))
+
+-- a part whose first token stood before
+abbrev pub ReadsAfter : List ℕ → Nodes → Nodes → List Token → Got reader.Part → Option Part → Type 0
+ReadsAfter b t u ts g r = Answer (StandsPart b) SaysPart 0 b t u ts g r
+
+abbrev pub Directed : List ℕ → List Token → Way → Type 0
+Directed b ts w = reader.direction ts ≡ gets (w .down) (tokensAt b (w .after))
+
+abbrev pub Distinguished : List ℕ → List Token → Way → Type 0
+Distinguished b ts w = reader.choose (reader.isWord kDistinct) (gets true) (gets false) ts ≡ gets (w .down) (tokensAt b (w .after))
+
+abbrev pub Must : List ℕ → List Token → Option Way → Type 0
+Must b ts None = reader.must ts ≡ refuses
+Must b ts (Some w) = reader.must ts ≡ gets (w .down) (tokensAt b (w .after))
+
+-- a column's kind: int, or text
+abbrev pub kindOf : reader.Reader Bool
+kindOf ts = reader.choose (reader.isWord kInt) (gets false) (reader.past (reader.isWord kText) (gets true)) ts
+
+abbrev pub Kinds : List ℕ → List Token → Option Way → Type 0
+Kinds b ts None = kindOf ts ≡ refuses
+Kinds b ts (Some w) = kindOf ts ≡ gets (w .down) (tokensAt b (w .after))
+
+abbrev pub ReadsCols : List ℕ → Nodes → Nodes → List Token → Got (List Col) → Option Part → Type 0
+ReadsCols b t u ts g r = Answer (StandsCols b) Nothing 1 b t u ts g r
+
+abbrev pub ReadsNames : List ℕ → Nodes → Nodes → List Token → Got (List Name) → Option Part → Type 0
+ReadsNames b t u ts g r = Answer (StandsNames b) Nothing 1 b t u ts g r
+
+abbrev pub ReadsRows : List ℕ → Nodes → Nodes → List Token → Got (List Exprs) → Option Part → Type 0
+ReadsRows b t u ts g r = Answer (StandsRows b) Nothing 1 b t u ts g r
+
+abbrev pub ReadsSets : List ℕ → Nodes → Nodes → List Token → Got (List Set) → Option Part → Type 0
+ReadsSets b t u ts g r = Answer (StandsSets b) Nothing 1 b t u ts g r

@@ -1,6 +1,9 @@
 // The statements of the language as texts.
+mod exprs;
 mod nodes;
 mod parts;
+mod sources;
+mod statements;
 mod tokens;
 mod words;
 

@@ -14,6 +14,21 @@ pub struct Part {
     pub after: Place,
 }
 
+// How it goes on after an expression: no further, wrongly, or with a longer one.
+#[derive(Clone, Copy)]
+pub enum Next {
+    Ends,
+    Fails,
+    Goes(Part),
+}
+
+// The direction of a key, and the place after it.
+#[derive(Clone, Copy)]
+pub struct Way {
+    pub down: bool,
+    pub after: Place,
+}
+
 // The groups of a query.
 #[derive(Clone, Copy)]
 pub struct Grouping {
