@@ -5,3 +5,4 @@ pub mod Stood
 pub mod Steps
 pub mod Turns
 pub mod Lists
+pub mod Columns

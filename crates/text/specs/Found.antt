@@ -27,6 +27,7 @@ use Rattle.text.specs.declared.parts.Part.{Part}
 use Rattle.text.specs.declared.parts.Next.{Next}
 use Rattle.text.specs.declared.parts.Next.the-variants as ways
 use Rattle.text.specs.declared.parts.Way.{Way}
+use Rattle.text.specs.declared.parts.Said.{Said}
 use Rattle.text.specs.declared.parts.Grouping.{Grouping}
 use Rattle.text.specs.declared.parts.Refusal.{Refusal}
 use Rattle.text.specs.declared.parts.Refusal.the-variants.{Unread, TooLong}
@@ -285,3 +286,23 @@ ReadsRows b t u ts g r = Answer (StandsRows b) Nothing 1 b t u ts g r
 
 abbrev pub ReadsSets : List ℕ → Nodes → Nodes → List Token → Got (List Set) → Option Part → Type 0
 ReadsSets b t u ts g r = Answer (StandsSets b) Nothing 1 b t u ts g r
+
+-- a statement that was read stands for the tree that the reader found
+abbrev pub Says : List ℕ → Nodes → Got Statement → Option Said → Type 0
+Says b u g None = g ≡ refuses
+Says b u g (Some s) = (st : Statement) × (g ≡ gets st (tokensAt b (s .after))) × StandsFor b (filled u) st (s .it)
+
+-- the same for a statement without nodes
+abbrev pub Names : List ℕ → Got Statement → Option Said → Type 0
+Names b g None = g ≡ refuses
+Names b g (Some s) = (st : Statement) × (g ≡ gets st (tokensAt b (s .after))) × ((f : List Node) → StandsFor b f st (s .it))
+
+abbrev pub marks : Bool → Name → Statement
+marks true = tree.savepoint
+marks false = tree.release
+
+-- the answer to a text: the statement that it is, in the nodes; that it is none; that it is too long
+abbrev pub ReadText : List ℕ → Nodes → Result made.Statement Refusal → Type 0
+ReadText b u (Ok s) = (st : Statement) × Reads b st × StandsFor b (filled u) st s
+ReadText b u (Err Unread) = Short b × ((st : Statement) → Reads b st → ⊥)
+ReadText b u (Err TooLong) = 4096 < length b

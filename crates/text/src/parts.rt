@@ -1,4 +1,5 @@
 // What the parts of the reader answer.
+use crate::nodes::Statement;
 use crate::tokens::Place;
 
 // A node that was read, what is to be known of it, and the place after it. Level and flags are 0 and false where nothing is said of them.
@@ -35,6 +36,13 @@ pub struct Grouping {
     pub are: bool,
     pub by: u16,
     pub having: u16,
+    pub after: Place,
+}
+
+// A statement that was read, and the place after it.
+#[derive(Clone, Copy)]
+pub struct Said {
+    pub it: Statement,
     pub after: Place,
 }
 
