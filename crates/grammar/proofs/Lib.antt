@@ -1,0 +1,9 @@
+pub mod Tools
+pub mod Climb
+pub mod Marks
+pub mod Operands
+pub mod Complete
+pub mod Statements
+pub mod Sound
+pub mod Queries
+pub mod Whole
