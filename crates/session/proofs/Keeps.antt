@@ -1,12 +1,9 @@
 -- The session is right above the specification of pages, and so the engine is whole.
 use mathlib.Core.Path.{_≡_, refl, _∙_, subst}
 use mathlib.Core.Logic.{_⊎_, inl, inr}
-use mathlib.Core.Bool.{Bool, true, false}
 use mathlib.Core.List.{List, []}
-use Prim.Native.Nat.{ℕ, _<_, _≤_}
-use lib.Dec.{ltb, lit<}
-use lib.ListN.{length}
-use borrow.Author.Tests.{ltb-true, ltb-false}
+use Prim.Native.Nat.{ℕ, _<_}
+use lib.Dec.{lit<}
 use Rattle.device.specs.Device.{With, and, nothing}
 use Rattle.device.specs.Layers.{Place, down, below, raised, lifting, rests, begun, midst, up, Whose, its, belows, none, after, EndsAbove, over}
 use Rattle.device.specs.declared.Next.{Next}
@@ -16,7 +13,7 @@ use Rattle.device.proofs.StandingAbove.{Led, Cut, StandingAbove, keeps-above}
 use Rattle.device.proofs.Ending.{settles-by}
 use Rattle.device.proofs.Whole.{layers-compose}
 use Rattle.device.proofs.Inside.{whole-inside}
-use Rattle.meaning.specs.Session.{Connection, Running, Idle, idle, next, readsNot, tooLong, nexts, Answers, Next as WantsRow, No as Refuses}
+use Rattle.meaning.specs.Session.{Connection, Running, Idle, idle, next, readsNot, tooLong, nexts, reads, Answers, Next as WantsRow, No as Refuses}
 use Rattle.pages.specs.Model.{Pages, pagesJudge, pagesEngine}
 use Rattle.pages.proofs.Ends.{pages-whole}
 use Rattle.pages.specs.declared.frames.PageCall.{PageCall}
@@ -24,8 +21,10 @@ use Rattle.pages.specs.declared.frames.PageReply.{PageReply}
 use Rattle.pages.specs.declared.frames.Frames.{Frames}
 use Rattle.pager.specs.declared.state.Pager.{Pager}
 use Rattle.device.specs.declared.Over.{Over}
-use Rattle.session.specs.Layer.{saidOf, header, Is, StartsAt, HearsAt, sessionLayer}
+use Rattle.session.specs.Layer.{HeardAs, SaidAs, TakenAs, Is, StartsAt, HearsAt, sessionLayer}
 use Rattle.session.specs.Promise.{Says, refuses, Answered, tables, built, EngineWhole}
+use Rattle.session.specs.declared.statement.Heard.{Heard}
+use Rattle.session.specs.declared.statement.Heard.the-variants.{TooLong, Unread, Statement}
 use Rattle.session.specs.declared.statement.Doing.{Doing}
 use Rattle.session.specs.declared.statement.Doing.the-variants.{Rising, Loading, Resting, Said, Asked}
 use Rattle.session.specs.declared.statement.Session.{Session}
@@ -40,7 +39,7 @@ rank : Doing → ℕ
 rank Rising = 2
 rank Loading = 1
 rank Resting = 1
-rank (Said b) = 1
+rank (Said h) = 1
 rank Asked = 1
 
 left : Whose → Doing → ℕ
@@ -54,8 +53,9 @@ fell x y b d k h l = rw (h .0, h .1) l
 start-falls : (a : Doing) (x : Next PageCall Value Reply) (b : Doing) → StartsAt a x b → left (after x) b < rank a
 unfolding rank left
 start-falls Rising x b h = fell x _ b _ _ h (lit< tt)
-start-falls (Said true) x b h = fell x _ b _ _ h (lit< tt)
-start-falls (Said false) x b h = fell x _ b _ _ h (lit< tt)
+start-falls (Said TooLong) x b h = fell x _ b _ _ h (lit< tt)
+start-falls (Said Unread) x b h = fell x _ b _ _ h (lit< tt)
+start-falls (Said Statement) x b h = fell x _ b _ _ h (lit< tt)
 start-falls Asked x b h = fell x _ b _ _ h (lit< tt)
 start-falls Loading x b h = fell x _ b _ _ h (lit< tt)
 start-falls Resting x b h = fell x _ b _ _ h (lit< tt)
@@ -81,7 +81,7 @@ module _ (size : ℕ) where
   Inv (raised a s) t = (a .doing ≡ Rising) × Still t
   Inv (lifting a c s) t = Still t
   Inv (rests a s) t = Still t
-  Inv (begun c us a s) t = (us ≡ []) × (a .doing ≡ saidOf (c .it) (length (c .bytes))) × Still t
+  Inv (begun c us a s) t = (us ≡ []) × TakenAs (c .it) (c .bytes) (a .doing) × Still t
   Inv (midst c us a d s) t = ⊥
 
   abbrev Leads : With Call → List (With Value) → Next PageCall Value Reply → Session → Pages → Connection → Type 0
@@ -110,15 +110,26 @@ module _ (size : ℕ) where
         allowed = rw q (subst (λ v. Answers built size WantsRow t (next v t .reply) (next v t .conn)) (h ∙ e) (nexts t));
       }
 
-  said-at : (c : With Call) (us : List (With Value)) (x : Next PageCall Value Reply) (b : Session) (s : Pages) (t : Connection) (long : Bool) → c .it ≡ Say → ltb 4096 (length (c .bytes)) ≡ long → us ≡ [] → Still t → StartsAt (Said long) x (b .doing) → Leads c us x b s t
-  said-at c us x b s t true e l n h q =
-      refused c us x b s t (idle t) 10 n (q .0) refl (record { reply = Refuses 10; says = refuses 10; allowed = rw e (tooLong (c .bytes) t (ltb-true 4096 (length (c .bytes)) l)) })
-  said-at c us x b s t false e l n h q =
-      refused c us x b s t (idle t) 1 n (q .0) refl (record { reply = Refuses 1; says = refuses 1; allowed = rw e (readsNot (c .bytes) t (ltb-false 4096 (length (c .bytes)) l) (λ st r. tt)) })
+  -- a text is refused by what it was read as
+  said-at : (c : With Call) (us : List (With Value)) (x : Next PageCall Value Reply) (b : Session) (s : Pages) (t : Connection) (h : Heard) → c .it ≡ Say → us ≡ [] → HeardAs (c .bytes) h → StartsAt (Said h) x (b .doing) → Leads c us x b s t
+  said-at c us x b s t TooLong e n h q = refused c us x b s t (idle t) 10 n (q .0) refl (record { reply = Refuses 10; says = refuses 10; allowed = rw e (tooLong (c .bytes) t h) })
+  said-at c us x b s t Unread e n h q =
+      refused c us x b s t (idle t) 1 n (q .0) refl (record { reply = Refuses 1; says = refuses 1; allowed = rw e (readsNot (c .bytes) t (h .0) (λ st r. absurd (h .1 st r))) })
+  said-at c us x b s t Statement e n h q =
+      refused c us x b s t (idle t) 12 n (q .0) refl (record { reply = Refuses 12; says = refuses 12; allowed = rw e (reads (c .bytes) (h .1 .0) t (h .0) (h .1 .1)) })
 
-  begins-at : (c : With Call) (k : Call) (us : List (With Value)) (x : Next PageCall Value Reply) (b : Session) (s : Pages) (t : Connection) → c .it ≡ k → us ≡ [] → Still t → StartsAt (saidOf k (length (c .bytes))) x (b .doing) → Leads c us x b s t
-  begins-at c Say us x b s t e n h q = said-at c us x b s t (ltb 4096 (length (c .bytes))) e refl n h q
-  begins-at c NextRow us x b s t e n h q = refused c us x b s t (idle t) 13 n (q .0) refl (next-still c Idle t refl e h)
+  said-by : (c : With Call) (us : List (With Value)) (x : Next PageCall Value Reply) (b : Session) (s : Pages) (t : Connection) (d : Doing) → c .it ≡ Say → us ≡ [] → SaidAs (c .bytes) d → StartsAt d x (b .doing) → Leads c us x b s t
+  said-by c us x b s t (Said h) e n k q = said-at c us x b s t h e n k q
+  said-by c us x b s t Rising e n k q = absurd k
+  said-by c us x b s t Loading e n k q = absurd k
+  said-by c us x b s t Resting e n k q = absurd k
+  said-by c us x b s t Asked e n k q = absurd k
+
+  begins-at : (c : With Call) (k : Call) (us : List (With Value)) (x : Next PageCall Value Reply) (a b : Session) (s : Pages) (t : Connection) → c .it ≡ k → us ≡ [] → Still t → TakenAs k (c .bytes) (a .doing) → StartsAt (a .doing) x (b .doing) → Leads c us x b s t
+  begins-at c Say us x a b s t e n h k q = said-by c us x b s t (a .doing) e n k q
+  begins-at c NextRow us x a b s t e n h k q =
+      let z : StartsAt Asked x (b .doing) = subst (λ d. StartsAt d x (b .doing)) k q in
+      refused c us x b s t (idle t) 13 n (z .0) refl (next-still c Idle t refl e h)
 
   stands : StandingAbove (pagesJudge size) (tables built size) sessionLayer size
   stands = record {
@@ -129,7 +140,7 @@ module _ (size : ℕ) where
     raises = λ a x b s t h q. raised-at a b x s t (h .0) (h .1) q;
     liftsOn = λ a c vs r x b s u t h y q. heard-at b x u t h q;
     takes = λ a c b s t h q. (refl, q, h);
-    begins = λ c us a x b s t h q. begins-at c (c .it) us x b s t refl (h .0) (h .2) (subst (λ d. StartsAt d x (b .doing)) (h .1) q);
+    begins = λ c us a x b s t h q. begins-at c (c .it) us x a b s t refl (h .0) (h .2) (h .1) q;
     goes = λ c us a d vs r x b s u t h y q. absurd h;
     belowCut = λ a s t h. refl;
     raisedCut = λ a s t h. refl;

@@ -92,8 +92,11 @@ impl Engine {
         let Ok(pages) = pages::frames::work::open(heap, size) else {
             return Err(Unopened::Memory);
         };
+        let Ok(session) = Session::new(heap) else {
+            return Err(Unopened::Memory);
+        };
         Ok(Engine {
-            tower: Over::opening(pages, Session::new()),
+            tower: Over::opening(pages, session),
         })
     }
 

@@ -14,5 +14,8 @@ returns-then-size-lt4096 c =
 pub returns-in-rest : need.returns-in-rest
 returns-in-rest c = record { opened = record { least = omega arith; most = omega arith }; whole = engine-whole }
 
+pub returns-in-rest-new : need.returns-in-rest-new
+returns-in-rest-new c = record { opened = record { least = omega arith; most = omega arith }; whole = engine-whole }
+
 pub returns : need.returns
-returns c = record { opened = c .opening .ensures (c .args .size) (c .in-Ok .ensures tt .opened) (c .new .ensures (c .args .size)); whole = engine-whole }
+returns c = record { opened = c .opening .ensures (c .args .size) (c .in-Ok .ensures tt .opened) (c .in-Ok-new .ensures tt (c .args .size)); whole = engine-whole }
