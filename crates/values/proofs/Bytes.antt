@@ -1,0 +1,72 @@
+-- Parts of bytes, what a write leaves, numbers as bytes, and bytes in their order. Assumes nothing.
+use mathlib.Core.Path.{_≡_, refl, sym, ap, _∙_}
+use mathlib.Core.List.{List, [], _∷_, _++_, append-assoc}
+use Prim.Native.Nat.{ℕ, zero, suc, _+_, _-_, _*_, _/_, _%_, _^_, _<_, _≤_}
+use native.Mathlib.Omega.{arith}
+use lib.ListN.{length, getD, replicate, set, take, drop, length-append}
+use native.Mathlib.Nat.{pow-suc, div-div-eq-div-mul}
+use Rattle.std.proofs.shelf.Lists.{length-push}
+use Rattle.std.proofs.shelf.Bits.{div-below, div-add-mod'}
+use borrow.Author.Needs.{needs}
+use borrow.Rule.Slice.PartMut.{putMid, postOf}
+use Rattle.std.proofs.shelf.Lists.{drop-drop, drop-more, same-lists, places, getD-set-same, getD-set-other, length-set}
+use Rattle.std.proofs.shelf.Tests.{cases-eq}
+use Rattle.std.proofs.shelf.Bits.{div-mul-add, mod-mul-add}
+use Rattle.std.specs.shelf.Digits.{number}
+use Rattle.std.proofs.shelf.Digits.{number-push}
+use Rattle.values.specs.Bytes.{part, put, be}
+
+-- a write to `s[a..a + k]`
+pub put-is : (a k : ℕ) (xs ys zs : List ℕ) → ys ≡ zs → k ≡ length zs → putMid a k xs ys ≡ put xs a zs
+unfolding put
+put-is a k xs ys zs e f =
+    ap (λ t. take a xs ++ (t ++ drop k (drop a xs))) e
+    ∙ ap (λ t. take a xs ++ (zs ++ t)) (drop-drop k a xs ∙ ap (λ n. drop (a + n) xs) f)
+
+pub length-put : (xs ys : List ℕ) (a : ℕ) → a + length ys ≤ length xs → length (put xs a ys) ≡ length xs
+unfolding put
+length-put xs ys a h = search (needs, places)
+
+-- one write right behind another is one write
+pub put-put : (xs ys zs : List ℕ) (a b : ℕ) → b ≡ a + length ys → a + length ys ≤ length xs → put (put xs a ys) b zs ≡ put xs a (ys ++ zs)
+unfolding put
+put-put xs ys zs a b e h = same-lists _ _ (search (needs, places)) (λ k d l. grind (arith, places))
+
+-- what was written is read again
+pub part-put : (xs ys : List ℕ) (a n : ℕ) → n ≡ length ys → a + n ≤ length xs → part (put xs a ys) a n ≡ ys
+unfolding put
+part-put xs ys a n e h = same-lists _ _ (search (needs, places)) (λ k d l. grind (arith, places))
+
+-- what lies before or behind stays
+pub part-before : (xs ys : List ℕ) (a b n : ℕ) → b + n ≤ a → a + length ys ≤ length xs → part (put xs a ys) b n ≡ part xs b n
+unfolding put
+part-before xs ys a b n e h = same-lists _ _ (search (needs, places)) (λ k d l. grind (arith, places))
+
+pub part-behind : (xs ys : List ℕ) (a b n : ℕ) → a + length ys ≤ b → a + length ys ≤ length xs → part (put xs a ys) b n ≡ part xs b n
+unfolding put
+part-behind xs ys a b n e h = same-lists _ _ (search (needs, places)) (λ k d l. grind (arith, places))
+
+pub length-part : (xs : List ℕ) (a n : ℕ) → a + n ≤ length xs → n ≡ length (part xs a n)
+length-part xs a n h = search (needs, places)
+
+pub length-be : (k n : ℕ) → length (be k n) ≡ k
+unfolding be
+length-be zero n = refl
+length-be (suc k) n = length-push (be k (n / 256)) (n % 256) ∙ (let e = length-be k (n / 256) in omega arith)
+
+-- what is written is what is read
+pub number-be : (k n : ℕ) → n < 256 ^ k → number 256 (be k n) ≡ n
+unfolding be
+number-be zero n h = omega arith
+number-be (suc k) n h =
+    number-push 256 (be k (n / 256)) (n % 256)
+    ∙ ap (λ x. x * 256 + n % 256) (number-be k (n / 256) (div-below n 256 (256 ^ k) (omega arith) (rw pow-suc at h)))
+    ∙ div-add-mod' n 256
+
+pub be8-is : (n : ℕ) → (n / 72057594037927936 % 256) ∷ (n / 281474976710656 % 256) ∷ (n / 1099511627776 % 256) ∷ (n / 4294967296 % 256) ∷ (n / 16777216 % 256) ∷ (n / 65536 % 256) ∷ (n / 256 % 256) ∷ (n % 256) ∷ [] ≡ be 8 n
+unfolding be
+be8-is n = simp div-div-eq-div-mul
+
+-- two copies to the front, one right behind the other, and the part that they fill
+pub two-copies : (a b x y out : List ℕ) → x ≡ a → y ≡ b → length a + length b ≤ length out → take (length a + length b - 0) (drop 0 (putMid (length a) (length a + length b - length a) (x ++ drop (length a - 0) out) y)) ≡ a ++ b
+two-copies a b x y out e f h = same-lists _ _ (search (needs, places)) (λ k d l. grind (arith, places))
