@@ -9,7 +9,7 @@ use Rattle.std.proofs.shelf.Lists.{length-push}
 use Rattle.std.proofs.shelf.Bits.{div-below, div-add-mod'}
 use borrow.Author.Needs.{needs}
 use borrow.Rule.Slice.PartMut.{putMid, postOf}
-use Rattle.std.proofs.shelf.Lists.{drop-drop, drop-more, same-lists, places, getD-set-same, getD-set-other, length-set}
+use Rattle.std.proofs.shelf.Lists.{take-more-set, drop-set-lt, drop-drop, drop-more, same-lists, places, getD-set-same, getD-set-other, length-set}
 use Rattle.std.proofs.shelf.Tests.{cases-eq}
 use Rattle.std.proofs.shelf.Bits.{div-mul-add, mod-mul-add}
 use Rattle.std.specs.shelf.Digits.{number}
@@ -70,3 +70,34 @@ be8-is n = simp div-div-eq-div-mul
 -- two copies to the front, one right behind the other, and the part that they fill
 pub two-copies : (a b x y out : List ℕ) → x ≡ a → y ≡ b → length a + length b ≤ length out → take (length a + length b - 0) (drop 0 (putMid (length a) (length a + length b - length a) (x ++ drop (length a - 0) out) y)) ≡ a ++ b
 two-copies a b x y out e f h = same-lists _ _ (search (needs, places)) (λ k d l. grind (arith, places))
+
+pub be2-is : (n : ℕ) → (n / 256 % 256) ∷ (n % 256) ∷ [] ≡ be 2 n
+unfolding be
+be2-is n = refl
+
+-- a byte written, and then what goes behind it
+pub put-cons : (xs ys : List ℕ) (a b y : ℕ) → b ≡ a + 1 → a < length xs → put (set xs a y) b ys ≡ put xs a (y ∷ ys)
+unfolding put
+put-cons xs ys a b y e h =
+    ap (λ t. t ++ (ys ++ drop (b + length ys) (set xs a y))) (ap (λ n. take n (set xs a y)) e ∙ take-more-set xs a y h)
+    ∙ append-assoc (take a xs) (y ∷ []) (ys ++ drop (b + length ys) (set xs a y))
+    ∙ ap (λ t. take a xs ++ (y ∷ (ys ++ t))) (drop-set-lt (b + length ys) xs a y (omega arith) ∙ ap (λ n. drop n xs) (omega arith))
+
+pub put-nil : (xs : List ℕ) (a : ℕ) → put xs a [] ≡ xs
+unfolding put
+put-nil xs a = same-lists _ _ (search (needs, places)) (λ k d l. grind (arith, places))
+
+pub put-one : (xs : List ℕ) (a y : ℕ) → a < length xs → set xs a y ≡ put xs a (y ∷ [])
+put-one xs a y h = sym (put-nil (set xs a y) (a + 1)) ∙ put-cons xs [] a (a + 1) y refl h
+
+-- a write over another of the same length
+pub put-over : (xs ys zs : List ℕ) (a : ℕ) → length ys ≡ length zs → a + length ys ≤ length xs → put (put xs a ys) a zs ≡ put xs a zs
+unfolding put
+put-over xs ys zs a e h = same-lists _ _ (search (needs, places)) (λ k d l. grind (arith, places))
+
+pub put-two : (xs ys : List ℕ) (a b c x y : ℕ) → b ≡ a + 1 → c ≡ b + 1 → b < length xs → put (set (set xs a x) b y) c ys ≡ put xs a (x ∷ y ∷ ys)
+put-two xs ys a b c x y e f h = put-cons (set xs a x) ys b c y f (rw length-set h) ∙ put-cons xs (y ∷ ys) a b x e (omega arith)
+
+-- a part, by its first byte and the rest
+pub part-more : (xs : List ℕ) (k to : ℕ) → k < to → to ≤ length xs → part xs k (to - k) ≡ getD xs k 0 ∷ part xs (k + 1) (to - (k + 1))
+part-more xs k to h l = let n : to - k ≡ suc (to - (k + 1)) = omega arith in rw (n, drop-more xs k 0 (omega arith)) refl

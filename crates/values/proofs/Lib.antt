@@ -1,2 +1,5 @@
 pub mod Numbers
 pub mod Bytes
+pub mod Compared
+pub mod Keys
+pub mod Writing

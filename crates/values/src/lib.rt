@@ -1,6 +1,8 @@
 // Values: null, a number of 64 bits, or a text whose bytes lie beside it in lent memory; what is computed with them, how a row lies in bytes, and how a key does.
 // Nothing that is computed can fail: what has no result is null. Nothing allocates.
 pub mod compute;
+pub mod digits;
+pub mod key;
 
 // A value; a text's bytes lie in memory that somebody lends.
 #[derive(Clone, Copy)]
