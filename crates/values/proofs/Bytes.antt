@@ -9,12 +9,13 @@ use Rattle.std.proofs.shelf.Lists.{length-push}
 use Rattle.std.proofs.shelf.Bits.{div-below, div-add-mod'}
 use borrow.Author.Needs.{needs}
 use borrow.Rule.Slice.PartMut.{putMid, postOf}
-use Rattle.std.proofs.shelf.Lists.{take-more-set, drop-set-lt, drop-drop, drop-more, same-lists, places, getD-set-same, getD-set-other, length-set}
+use Rattle.std.proofs.shelf.Lists.{nil-from-length, take-more, take-all, length-take-le, take-more-set, drop-set-lt, drop-drop, drop-more, same-lists, places, getD-set-same, getD-set-other, length-set}
 use Rattle.std.proofs.shelf.Tests.{cases-eq}
 use Rattle.std.proofs.shelf.Bits.{div-mul-add, mod-mul-add}
 use Rattle.std.specs.shelf.Digits.{number}
 use Rattle.std.proofs.shelf.Digits.{number-push}
-use Rattle.values.specs.Bytes.{part, put, be}
+use Rattle.std.proofs.shelf.Elements.{all-getD, all-take}
+use Rattle.values.specs.Bytes.{part, put, be, Bytes}
 
 -- a write to `s[a..a + k]`
 pub put-is : (a k : ℕ) (xs ys zs : List ℕ) → ys ≡ zs → k ≡ length zs → putMid a k xs ys ≡ put xs a zs
@@ -101,3 +102,19 @@ put-two xs ys a b c x y e f h = put-cons (set xs a x) ys b c y f (rw length-set 
 -- a part, by its first byte and the rest
 pub part-more : (xs : List ℕ) (k to : ℕ) → k < to → to ≤ length xs → part xs k (to - k) ≡ getD xs k 0 ∷ part xs (k + 1) (to - (k + 1))
 part-more xs k to h l = let n : to - k ≡ suc (to - (k + 1)) = omega arith in rw (n, drop-more xs k 0 (omega arith)) refl
+
+-- what is read is what was written
+pub be-number : (k : ℕ) (xs : List ℕ) → length xs ≡ k → Bytes xs → be k (number 256 xs) ≡ xs
+unfolding be
+be-number zero xs e h = sym (nil-from-length xs e)
+be-number (suc k) xs e h =
+    let front = take k xs in
+    let last = getD xs k 0 in
+    let whole : front ++ (last ∷ []) ≡ xs = sym (take-more xs k 0 (omega arith)) ∙ take-all (k + 1) xs (omega arith) in
+    let small : last < 256 = all-getD (λ (b : ℕ). b < 256) xs k 0 (omega arith) h in
+    let value : number 256 xs ≡ number 256 front * 256 + last = ap (number 256) (sym whole) ∙ number-push 256 front last in
+    let high : number 256 xs / 256 ≡ number 256 front = omega (arith, value) in
+    let low : number 256 xs % 256 ≡ last = omega (arith, value) in
+    (λ t. be k (high t) ++ (low t ∷ []))
+    ∙ ap (λ t. t ++ (last ∷ [])) (be-number k front (length-take-le k xs (omega arith)) (all-take (λ (b : ℕ). b < 256) k xs h))
+    ∙ whole

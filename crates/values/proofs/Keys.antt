@@ -24,7 +24,7 @@ use Rattle.values.proofs.Compared.{Verdict, Before, After, Alike, Compared, al
 
 -- a number that fits is below 2^63 in size
 
-abbrev Held : ℤ → Type 0
+abbrev pub Held : ℤ → Type 0
 Held (pos n) = n < 9223372036854775808
 Held (negsuc n) = n < 9223372036854775808
 
@@ -41,7 +41,7 @@ held-storable (negsuc n) h = below (ltb n 9223372036854775808) refl h
     below true e h = ltb-true n 9223372036854775808 e
     below false e h = let z : _≡_ {A = ℕ} 0 1 = cc in absurd (omega arith)
 
-lifted-below : (z : ℤ) → Held z → lifted z < 256 ^ 8
+pub lifted-below : (z : ℤ) → Held z → lifted z < 256 ^ 8
 unfolding lifted
 lifted-below (pos n) h = omega arith
 lifted-below (negsuc n) h = omega arith

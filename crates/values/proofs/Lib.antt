@@ -3,3 +3,4 @@ pub mod Bytes
 pub mod Compared
 pub mod Keys
 pub mod Writing
+pub mod Rows

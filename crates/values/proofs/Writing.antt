@@ -4,25 +4,19 @@ use mathlib.Core.Bool.{Bool, true, false, cond}
 use mathlib.Core.List.{List, [], _∷_, _++_, map}
 use Prim.Native.Nat.{ℕ, zero, suc, _+_, _-_, _*_, _/_, _<_, _≤_}
 use native.Mathlib.Omega.{arith}
-use lib.Dec.{leb}
-use lib.IntN.{ℤ, pos, negsuc, _+ℤ_, natAbs}
+use lib.Dec.{leb, ltb}
+use lib.IntN.{ℤ, pos, negsuc, _+ℤ_, _-ℤ_, natAbs}
 use lib.ListN.{length, getD, set, take, drop}
 use mir.Syntax.{w64, w128}
 use mir.Val.{SFits, ofZ, toZ}
 use Rattle.std.proofs.shelf.Lists.{drop-more, drop-all, drop-set-lt, length-map}
-use Rattle.std.proofs.shelf.Signed.{toZ-ofZ}
-use Rattle.std.proofs.shelf.Tests.{cond-false, le-ltb}
+use Rattle.std.proofs.shelf.Signed.{toZ-ofZ, toZ-pos}
+use Rattle.std.proofs.shelf.Tests.{cond-false, cond-both, le-ltb}
 use Rattle.std.proofs.shelf.Ways.{tells}
 use Rattle.values.specs.Bytes.{part, put, turned}
 use Rattle.values.specs.Key.{lifted, escaped}
+use Rattle.values.specs.Row.{lowered}
 use Rattle.values.proofs.Bytes.{put-cons, put-over, part-put, part-more}
-
--- 1 and twice a text's weight fit
-pub text-room : (n room w : ℕ) → w ≡ 3 + n → 7 ≤ room → leb n ((room - 7) / 2) ≡ leb (2 * w + 1) room
-text-room n room w e h = grind (arith, tells)
-
-pub no-room : (n room w : ℕ) → w ≡ 3 + n → room < 7 → leb 7 room ≡ leb (2 * w + 1) room
-no-room n room w e h = grind (arith, tells)
 
 -- one byte of a text
 
@@ -81,3 +75,21 @@ turned-put out last rising at end e f h =
     ap (λ t. put t at (turned (part t at (end - at)))) e
     ∙ ap (λ t. put (put out at rising) at (turned t)) (part-put out rising at (end - at) (omega arith) (omega arith))
     ∙ put-over out rising (turned rising) at (sym (length-map rising (λ (b : ℕ). 255 - b))) h
+
+-- 2^63 taken away again, in 128 bits
+
+lowered-fits : (n : ℕ) → n < 18446744073709551616 → SFits w64 (lowered n)
+unfolding lowered
+lowered-fits n h = cond-both (ltb n 9223372036854775808) (negsuc (9223372036854775807 - n)) (pos (n - 9223372036854775808)) (λ (z : ℤ). SFits w64 z) (λ e. record { sfits = omega arith }) (λ e. record { sfits = omega arith })
+
+lowered-sum : (n : ℕ) → pos n -ℤ pos 9223372036854775808 ≡ lowered n
+unfolding lowered
+lowered-sum n = ap (λ m. cond (ltb n 9223372036854775808) (negsuc m) (pos (n - 9223372036854775808))) (omega arith)
+
+pub lower-is : (n : ℕ) → n < 18446744073709551616 → toZ w64 (ofZ w64 (toZ w128 (ofZ w128 (toZ w128 n -ℤ pos 9223372036854775808)))) ≡ lowered n
+lower-is n h =
+    let f = lowered-fits n h in
+    ap (λ z. toZ w64 (ofZ w64 (toZ w128 (ofZ w128 (z -ℤ pos 9223372036854775808))))) (toZ-pos w128 n (omega arith))
+    ∙ ap (λ z. toZ w64 (ofZ w64 (toZ w128 (ofZ w128 z)))) (lowered-sum n)
+    ∙ ap (λ z. toZ w64 (ofZ w64 z)) (toZ-ofZ w128 (lowered n) (wider (lowered n) f))
+    ∙ toZ-ofZ w64 (lowered n) f

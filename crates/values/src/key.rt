@@ -35,10 +35,7 @@ pub fn write_column(value: Value, falling: bool, out: &mut [u8], at: usize) -> O
     ensures place { λ r. ⌜ r ≡ cond (leb (at + (2 * weight (meaningOf (value .entry)) + 1)) (length (now (out .entry)))) (Some (at + length (codeOf falling (meaningOf (value .entry))))) None ⌝ }
     ensures bytes { λ _. ⌜ now (out .exit) ≡ cond (leb (at + (2 * weight (meaningOf (value .entry)) + 1)) (length (now (out .entry)))) (put (now (out .entry)) at (codeOf falling (meaningOf (value .entry)))) (now (out .entry)) ⌝ }
 {
-    if at > out.len() {
-        return None;
-    }
-    if !has_room(value, out.len() - at) {
+    if at >= out.len() || value.weight() > (out.len() - at - 1) / 2 {
         return None;
     }
     Some(put_column(value, falling, out, at))
@@ -54,17 +51,6 @@ fn put_column(value: Value, falling: bool, out: &mut [u8], at: usize) -> usize
         turn(out, at, end);
     }
     end
-}
-
-// Whether 1 and twice the value's weight fit.
-fn has_room(value: Value, room: usize) -> bool
-    ensures { λ r. ⌜ r ≡ leb (2 * weight (meaningOf (value .entry)) + 1) room ⌝ }
-{
-    match value {
-        Value::Null => room >= 3,
-        Value::Number(_) => room >= 19,
-        Value::Text(text) => room >= 7 && text.len() <= (room - 7) / 2,
-    }
 }
 
 fn put_rising(value: Value, out: &mut [u8], at: usize) -> usize

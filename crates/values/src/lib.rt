@@ -3,6 +3,7 @@
 pub mod compute;
 pub mod digits;
 pub mod key;
+pub mod row;
 
 // A value; a text's bytes lie in memory that somebody lends.
 #[derive(Clone, Copy)]
