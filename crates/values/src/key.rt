@@ -9,7 +9,7 @@ ghost use Rattle.std.specs.declared.option.Option.the-variants.{Some, None};
 ghost use Rattle.meaning.specs.Doing.{weight};
 ghost use Rattle.values.specs.Meant.{meaningOf};
 ghost use Rattle.values.specs.Bytes.{part, put, be, turned};
-ghost use Rattle.values.specs.Key.{lifted, escaped, risingCode, codeOf, KeysOrdered, KeysFollowed, KeysApart, KeysShort};
+ghost use Rattle.values.specs.Key.{lifted, escaped, risingCode, codeOf, Storable, KeysOrdered, KeysFollowed, KeysApart, KeysShort};
 use crate::Value;
 use crate::digits::put_u64;
 
@@ -32,10 +32,12 @@ pub fn keys_stand() -> u8
 
 // A column of a key, written at `at`: the place behind it. Nothing is written where 1 and twice the value's weight have no room there.
 pub fn write_column(value: Value, falling: bool, out: &mut [u8], at: usize) -> Option<usize>
+    ensures storable { λ _. ⌜ Storable (meaningOf (value .entry)) ⌝ }
     ensures place { λ r. ⌜ r ≡ cond (leb (at + (2 * weight (meaningOf (value .entry)) + 1)) (length (now (out .entry)))) (Some (at + length (codeOf falling (meaningOf (value .entry))))) None ⌝ }
     ensures bytes { λ _. ⌜ now (out .exit) ≡ cond (leb (at + (2 * weight (meaningOf (value .entry)) + 1)) (length (now (out .entry)))) (put (now (out .entry)) at (codeOf falling (meaningOf (value .entry)))) (now (out .entry)) ⌝ }
 {
-    if at >= out.len() || value.weight() > (out.len() - at - 1) / 2 {
+    let weight = value.weight();
+    if at >= out.len() || weight > (out.len() - at - 1) / 2 {
         return None;
     }
     Some(put_column(value, falling, out, at))

@@ -9,8 +9,9 @@ ghost use Rattle.std.specs.Options.{mapped};
 ghost use Rattle.std.specs.declared.option.Option.the-variants.{Some, None};
 ghost use Rattle.meaning.specs.Doing.{weight};
 ghost use Rattle.values.specs.Meant.{meaningOf};
-ghost use Rattle.values.specs.Bytes.{put, be};
+ghost use Rattle.values.specs.Bytes.{put, be, Bytes};
 ghost use Rattle.values.specs.Row.{bytesOf, hasRoom, lowered, front, frontOf, seen, columnOf, rowOf, RowsRead, RowsWritten, RowsColumns, RowsWeigh};
+ghost use Rattle.values.specs.Key.{Storable};
 use crate::Value;
 use crate::digits::get_u16;
 use crate::digits::get_u64;
@@ -47,6 +48,7 @@ pub fn rows_stand() -> u8
 
 // A value written at `at`: the place behind it. Nothing is written where it has no room, or where 2 bytes don't hold a text's length.
 pub fn write_value(value: Value, out: &mut [u8], at: usize) -> Option<usize>
+    ensures storable { λ _. ⌜ Storable (meaningOf (value .entry)) ⌝ }
     ensures place { λ r. ⌜ r ≡ cond (hasRoom (now (out .entry)) at (meaningOf (value .entry))) (Some (at + weight (meaningOf (value .entry)))) None ⌝ }
     ensures bytes { λ _. ⌜ now (out .exit) ≡ cond (hasRoom (now (out .entry)) at (meaningOf (value .entry))) (put (now (out .entry)) at (bytesOf (meaningOf (value .entry)))) (now (out .entry)) ⌝ }
 {
@@ -184,14 +186,29 @@ pub fn columns(bytes: &[u8]) -> Option<usize>
 }
 
 impl<'a> Value<'a> {
-    // How many bytes it takes in a row.
+    // How many bytes it takes in a row. What the code holds can be stored.
     pub fn weight(self) -> usize
-        ensures { λ r. ⌜ r ≡ weight (meaningOf (self .entry)) ⌝ }
+        ensures value { λ r. ⌜ r ≡ weight (meaningOf (self .entry)) ⌝ }
+        ensures storable { λ _. ⌜ Storable (meaningOf (self .entry)) ⌝ }
     {
         match self {
             Value::Null => 1,
             Value::Number(_) => 9,
-            Value::Text(text) => 3 + text.len(),
+            Value::Text(text) => text_weight(text),
         }
     }
+}
+
+// That a slice's elements are bytes is known where it is handed on, as here to `length_of`.
+fn text_weight(text: &[u8]) -> usize
+    ensures value { λ r. ⌜ r ≡ 3 + length (now (text .entry)) ⌝ }
+    ensures bytes { λ _. ⌜ Bytes (now (text .entry)) ⌝ }
+{
+    3 + length_of(text)
+}
+
+fn length_of(text: &[u8]) -> usize
+    ensures { λ r. ⌜ r ≡ length (now (text .entry)) ⌝ }
+{
+    text.len()
 }
