@@ -4,3 +4,4 @@ pub mod Compared
 pub mod Keys
 pub mod Writing
 pub mod Rows
+pub mod Unescaping

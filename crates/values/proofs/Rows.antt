@@ -46,28 +46,28 @@ lifted-lowered n h = go (ltb n 9223372036854775808) refl
 
 -- tests that a value passed
 
-guarded : {A : Type 0} (b : Bool) (o : Option A) (s : A) → cond b o None ≡ Some s → (b ≡ true) × (o ≡ Some s)
+pub guarded : {A : Type 0} (b : Bool) (o : Option A) (s : A) → cond b o None ≡ Some s → (b ≡ true) × (o ≡ Some s)
 guarded true o s e = (refl, e)
 guarded false o s e = let z : _≡_ {A = ℕ} 0 1 = cc in absurd (omega arith)
 
-chosen : {A : Type 0} (b : Bool) (o p : Option A) (s : A) → cond b o p ≡ Some s → ((b ≡ true) × (o ≡ Some s)) ⊎ (p ≡ Some s)
+pub chosen : {A : Type 0} (b : Bool) (o p : Option A) (s : A) → cond b o p ≡ Some s → ((b ≡ true) × (o ≡ Some s)) ⊎ (p ≡ Some s)
 chosen true o p s e = inl (refl, e)
 chosen false o p s e = inr e
 
-same-some : {A : Type 0} (x y : A) → Some x ≡ Some y → y ≡ x
+pub same-some : {A : Type 0} (x y : A) → Some x ≡ Some y → y ≡ x
 same-some x y e = cc
 
-never-none : {A P : Type 0} (x : A) → None ≡ Some x → P
+pub never-none : {A P : Type 0} (x : A) → None ≡ Some x → P
 never-none x e = let z : _≡_ {A = ℕ} 0 1 = cc in absurd (omega arith)
 
 -- what the first value of bytes can be
-View : ℕ → List ℕ → Split → Type 0
+unfoldable pub View : ℕ → List ℕ → Split → Type 0
 View kind bs s =
     ((kind ≡ 0) × (s ≡ record { value = Null; rest = bs })) ⊎
     (((kind ≡ 1) × (8 ≤ length bs) × (s ≡ record { value = Num (lowered (number 256 (take 8 bs))); rest = drop 8 bs })) ⊎
     ((kind ≡ 2) × (2 ≤ length bs) × (number 256 (take 2 bs) ≤ length (drop 2 bs)) × (s ≡ record { value = Text (take (number 256 (take 2 bs)) (drop 2 bs)); rest = drop (number 256 (take 2 bs)) (drop 2 bs) })))
 
-view : (kind : ℕ) (bs : List ℕ) (s : Split) → frontOf kind bs ≡ Some s → View kind bs s
+pub view : (kind : ℕ) (bs : List ℕ) (s : Split) → frontOf kind bs ≡ Some s → View kind bs s
 unfolding View
 view kind bs s e = at-null (chosen (eqb kind 0) _ _ s e)
   where
@@ -97,7 +97,7 @@ front-shorter (kind ∷ bs) s e = go (view kind bs s e)
     go (inr (inl p)) = let q = ap (λ (t : Split). length (t .rest)) (p .2) in omega (arith, q, length-drop 8 bs)
     go (inr (inr p)) = let q = ap (λ (t : Split). length (t .rest)) (p .3) in omega (arith, q, length-drop (number 256 (take 2 bs)) (drop 2 bs), length-drop 2 bs)
 
-front-nil : front [] ≡ None
+pub front-nil : front [] ≡ None
 unfolding front
 front-nil = refl
 
@@ -151,7 +151,7 @@ unfolding rowBytes weightAll
 rows-weigh [] = refl
 rows-weigh (v ∷ vs) = length-append (bytesOf v) (rowBytes vs) ∙ (let e = length-bytes v in let f = rows-weigh vs in omega arith)
 
-front-read : (v : Value) (rest : List ℕ) → Storable v → weight v ≤ 65538 → front (bytesOf v ++ rest) ≡ Some (record { value = v; rest = rest })
+pub front-read : (v : Value) (rest : List ℕ) → Storable v → weight v ≤ 65538 → front (bytesOf v ++ rest) ≡ Some (record { value = v; rest = rest })
 unfolding front bytesOf weight
 front-read Null rest h w = refl
 front-read (Num n) rest h w =
@@ -183,31 +183,31 @@ rows-read (v ∷ vs) h w =
 
 -- what is read was written
 
+pub number-written : (bs : List ℕ) → Bytes bs → 8 ≤ length bs → be 8 (lifted (lowered (number 256 (take 8 bs)))) ++ drop 8 bs ≡ bs
+number-written bs b h =
+    let digits = all-take (λ (x : ℕ). x < 256) 8 bs b in
+    let below : number 256 (take 8 bs) < 18446744073709551616 = (let l = number-lt 256 (take 8 bs) digits in let k = length-take-le 8 bs h in rw k at l) in
+    ap (λ n. be 8 n ++ drop 8 bs) (lifted-lowered (number 256 (take 8 bs)) below)
+    ∙ ap (λ t. t ++ drop 8 bs) (be-number 8 (take 8 bs) (length-take-le 8 bs h) digits)
+    ∙ take-append-drop 8 bs
+
 front-written : (bs : List ℕ) (s : Split) → Bytes bs → front bs ≡ Some s → (bytesOf (s .value) ++ s .rest ≡ bs) × Bytes (s .rest)
 unfolding front View bytesOf
 front-written [] s b e = never-none s e
 front-written (kind ∷ bs) s b e = go (view kind bs s e)
   where
-    digits : (n : ℕ) → n ≤ length bs → be n (number 256 (take n bs)) ≡ take n bs
-    digits n h = be-number n (take n bs) (length-take-le n bs h) (all-take (λ (x : ℕ). x < 256) n bs (b .1))
-
     go : View kind bs s → (bytesOf (s .value) ++ s .rest ≡ kind ∷ bs) × Bytes (s .rest)
     go (inl p) = (ap (λ (t : Split). bytesOf (t .value) ++ t .rest) (p .1) ∙ ap (λ k. k ∷ bs) (sym (p .0)), subst (λ (t : Split). Bytes (t .rest)) (sym (p .1)) (b .1))
-    go (inr (inl p)) =
-        let below : number 256 (take 8 bs) < 18446744073709551616 = (let l = number-lt 256 (take 8 bs) (all-take (λ (x : ℕ). x < 256) 8 bs (b .1)) in let k = length-take-le 8 bs (p .1) in rw k at l) in (
-          ap (λ (t : Split). bytesOf (t .value) ++ t .rest) (p .2)
-              ∙ ap (λ n. 1 ∷ be 8 n ++ drop 8 bs) (lifted-lowered (number 256 (take 8 bs)) below)
-              ∙ ap (λ t. 1 ∷ t ++ drop 8 bs) (digits 8 (p .1))
-              ∙ ap (λ t. 1 ∷ t) (take-append-drop 8 bs)
-              ∙ ap (λ k. k ∷ bs) (sym (p .0)),
-          subst (λ (t : Split). Bytes (t .rest)) (sym (p .2)) (all-drop (λ (x : ℕ). x < 256) 8 bs (b .1)),
-        )
+    go (inr (inl p)) = (
+      ap (λ (t : Split). bytesOf (t .value) ++ t .rest) (p .2) ∙ ap (λ t. 1 ∷ t) (number-written bs (b .1) (p .1)) ∙ ap (λ k. k ∷ bs) (sym (p .0)),
+      subst (λ (t : Split). Bytes (t .rest)) (sym (p .2)) (all-drop (λ (x : ℕ). x < 256) 8 bs (b .1)),
+    )
     go (inr (inr p)) =
         let n = number 256 (take 2 bs) in
         let text = take n (drop 2 bs) in (
           ap (λ (t : Split). bytesOf (t .value) ++ t .rest) (p .3)
               ∙ ap (λ m. 2 ∷ (be 2 m ++ text) ++ drop n (drop 2 bs)) (length-take-le n (drop 2 bs) (p .2))
-              ∙ ap (λ t. 2 ∷ (t ++ text) ++ drop n (drop 2 bs)) (digits 2 (p .1))
+              ∙ ap (λ t. 2 ∷ (t ++ text) ++ drop n (drop 2 bs)) (be-number 2 (take 2 bs) (length-take-le 2 bs (p .1)) (all-take (λ (x : ℕ). x < 256) 2 bs (b .1)))
               ∙ ap (λ t. 2 ∷ t) (append-assoc (take 2 bs) text (drop n (drop 2 bs)) ∙ ap (λ t. take 2 bs ++ t) (take-append-drop n (drop 2 bs)) ∙ take-append-drop 2 bs)
               ∙ ap (λ k. k ∷ bs) (sym (p .0)),
           subst (λ (t : Split). Bytes (t .rest)) (sym (p .3)) (all-drop (λ (x : ℕ). x < 256) n (drop 2 bs) (all-drop (λ (x : ℕ). x < 256) 2 bs (b .1))),

@@ -14,11 +14,11 @@ use crate::Value;
 use crate::digits::put_u64;
 
 // The first byte of a column: nulls come before numbers, numbers before texts.
-const NULL: u8 = 1;
+pub const NULL: u8 = 1;
 
-const NUMBER: u8 = 2;
+pub const NUMBER: u8 = 2;
 
-const TEXT: u8 = 3;
+pub const TEXT: u8 = 3;
 
 // Comparing keys is comparing values, whatever follows the keys; none is a beginning of another, and none is long.
 pub fn keys_stand() -> u8

@@ -1,5 +1,6 @@
 // Values: null, a number of 64 bits, or a text whose bytes lie beside it in lent memory; what is computed with them, how a row lies in bytes, and how a key does.
 // Nothing that is computed can fail: what has no result is null. Nothing allocates.
+pub mod back;
 pub mod compute;
 pub mod digits;
 pub mod key;

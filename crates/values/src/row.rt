@@ -31,9 +31,9 @@ const HEAVIEST: usize = 65538;
 
 // A value, and the bytes behind it.
 #[derive(Clone, Copy)]
-pub struct First<'a> {
-    pub value: Value<'a>,
-    pub rest: &'a [u8],
+pub struct First<'v, 'r> {
+    pub value: Value<'v>,
+    pub rest: &'r [u8],
 }
 
 // What is written is read; bytes that are a row are the bytes of that row; a row takes as many bytes as it weighs.
@@ -97,7 +97,7 @@ fn put_text(text: &[u8], out: &mut [u8], at: usize) -> usize
 }
 
 // The first value of bytes; none where no value stands there.
-pub fn first_value<'a>(bytes: &'a [u8]) -> Option<First<'a>>
+pub fn first_value<'a>(bytes: &'a [u8]) -> Option<First<'a, 'a>>
     ensures { λ r. ⌜ mapped seen r ≡ front (now (bytes .entry)) ⌝ }
 {
     if bytes.len() == 0 {
@@ -115,7 +115,7 @@ pub fn first_value<'a>(bytes: &'a [u8]) -> Option<First<'a>>
     }
 }
 
-fn first_number<'a>(bytes: &'a [u8]) -> Option<First<'a>>
+pub fn first_number<'v, 'r>(bytes: &'r [u8]) -> Option<First<'v, 'r>>
     ensures { λ r. ⌜ mapped seen r ≡ frontOf 1 (now (bytes .entry)) ⌝ }
 {
     if bytes.len() < 8 {
@@ -127,7 +127,7 @@ fn first_number<'a>(bytes: &'a [u8]) -> Option<First<'a>>
     })
 }
 
-fn first_text<'a>(bytes: &'a [u8]) -> Option<First<'a>>
+fn first_text<'a>(bytes: &'a [u8]) -> Option<First<'a, 'a>>
     ensures { λ r. ⌜ mapped seen r ≡ frontOf 2 (now (bytes .entry)) ⌝ }
 {
     if bytes.len() < 2 {
