@@ -1,17 +1,20 @@
 -- Parts of bytes, what a write leaves, numbers as bytes, and bytes in their order. Assumes nothing.
 use mathlib.Core.Path.{_≡_, refl, sym, ap, _∙_}
-use mathlib.Core.List.{List, [], _∷_, _++_, append-assoc}
+use mathlib.Core.Bool.{Bool, true, false}
+use mathlib.Core.List.{List, [], _∷_, _++_, append-assoc, append-nil}
 use Prim.Native.Nat.{ℕ, zero, suc, _+_, _-_, _*_, _/_, _%_, _^_, _<_, _≤_}
 use native.Mathlib.Omega.{arith}
-use lib.ListN.{length, getD, replicate, set, take, drop, length-append}
+use lib.ListN.{length, getD, set, take, drop}
 use native.Mathlib.Nat.{pow-suc, div-div-eq-div-mul}
 use Rattle.std.proofs.shelf.Lists.{length-push}
 use Rattle.std.proofs.shelf.Bits.{div-below, div-add-mod'}
 use borrow.Author.Needs.{needs}
-use borrow.Rule.Slice.PartMut.{putMid, postOf}
-use Rattle.std.proofs.shelf.Lists.{nil-from-length, take-more, take-all, length-take-le, take-more-set, drop-set-lt, drop-drop, drop-more, same-lists, places, getD-set-same, getD-set-other, length-set}
-use Rattle.std.proofs.shelf.Tests.{cases-eq}
-use Rattle.std.proofs.shelf.Bits.{div-mul-add, mod-mul-add}
+use borrow.Rule.Slice.PartMut.{putMid}
+use Rattle.std.proofs.shelf.Lists.{nil-from-length, take-more, take-all, length-take-le, take-more-set, drop-set-lt, drop-drop, drop-more, same-lists, places, length-set}
+use Rattle.std.proofs.shelf.Tests.{eq-eqb, lt-ltb, le-ltb}
+use lib.Dec.{ltb}
+use Rattle.meaning.specs.Value.{Text, less, same, lessBytes}
+use Rattle.meaning.proofs.Order.{order-stands, holds-true, true-holds}
 use Rattle.std.specs.shelf.Digits.{number}
 use Rattle.std.proofs.shelf.Digits.{number-push}
 use Rattle.std.proofs.shelf.Elements.{all-getD, all-take}
@@ -118,3 +121,42 @@ be-number (suc k) xs e h =
     (λ t. be k (high t) ++ (low t ∷ []))
     ∙ ap (λ t. t ++ (last ∷ [])) (be-number k front (length-take-le k xs (omega arith)) (all-take (λ (b : ℕ). b < 256) k xs h))
     ∙ whole
+
+-- the order of bytes is one: it goes on, no two are each below the other, and bytes of which neither is below are the same
+
+pub less-trans : (a b c : List ℕ) → lessBytes a b ≡ true → lessBytes b c ≡ true → lessBytes a c ≡ true
+unfolding less
+less-trans a b c h k = holds-true (lessBytes a c) (order-stands .1 (Text a) (Text b) (Text c) (true-holds (lessBytes a b) h) (true-holds (lessBytes b c) k))
+
+pub less-asym : (a b : List ℕ) → lessBytes a b ≡ true → lessBytes b a ≡ true → ⊥
+unfolding less
+less-asym a b h k = order-stands .0 (Text a) (Text b) (true-holds (lessBytes a b) h) (true-holds (lessBytes b a) k)
+
+pub less-neither : (a b : List ℕ) → lessBytes a b ≡ false → lessBytes b a ≡ false → a ≡ b
+unfolding less
+less-neither a b h k = text-same a b (order-stands .2 (Text a) (Text b) (true-holds (same (Text a) (Text b)) (rw (h, k) refl)))
+  where
+    text-same : (a b : List ℕ) → Text a ≡ Text b → a ≡ b
+    text-same a b e = cc
+
+pub less-same : (a : List ℕ) → lessBytes a a ≡ false
+less-same a = go (lessBytes a a) refl
+  where
+    go : (t : Bool) → lessBytes a a ≡ t → lessBytes a a ≡ false
+    go true e = absurd (less-asym a a e e)
+    go false e = e
+
+-- what two strings begin with alike doesn't count
+pub less-front : (front a b : List ℕ) → lessBytes (front ++ a) (front ++ b) ≡ lessBytes a b
+unfolding lessBytes
+less-front [] a b = refl
+less-front (x ∷ front) a b = rw (le-ltb x x (omega arith), eq-eqb x x refl) (less-front front a b)
+
+-- a string comes right before those that it begins
+pub less-begins : (a b : List ℕ) → lessBytes a (a ++ b) ≡ ltb 0 (length b)
+unfolding lessBytes
+less-begins a b = ap (λ t. lessBytes t (a ++ b)) (sym (append-nil a)) ∙ less-front a [] b ∙ from-nil b
+  where
+    from-nil : (b : List ℕ) → lessBytes [] b ≡ ltb 0 (length b)
+    from-nil [] = refl
+    from-nil (y ∷ b) = sym (lt-ltb 0 (suc (length b)) (omega arith))

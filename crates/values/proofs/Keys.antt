@@ -1,26 +1,25 @@
 -- Keys as bytes: their order, that none begins another, their length. Assumes nothing.
-use mathlib.Core.Path.{_≡_, refl, sym, ap, subst, _∙_}
+use mathlib.Core.Path.{_≡_, refl, sym, ap, _∙_}
 use mathlib.Core.Bool.{Bool, true, false, cond, not, _&&_, _||_}
-use mathlib.Core.List.{List, [], _∷_, _++_, append-nil, append-assoc, map}
-use mathlib.Core.Logic.{_⊎_, inl, inr}
+use mathlib.Core.List.{List, [], _∷_, append-nil}
 use Prim.Native.Nat.{ℕ, zero, suc, _+_, _-_, _*_, _/_, _%_, _^_, _<_, _≤_}
 use native.Mathlib.Omega.{arith}
-use lib.Dec.{T, eqb, ltb}
+use lib.Dec.{ltb}
 use lib.IntN.{ℤ, pos, negsuc}
 use lib.ListN.{length, length-append}
 use Rattle.std.specs.shelf.Lists.{All}
-use Rattle.std.proofs.shelf.Elements.{all-append, all-push}
+use Rattle.std.proofs.shelf.Elements.{all-push}
 use Rattle.std.proofs.shelf.Lists.{length-map}
-use Rattle.std.proofs.shelf.Tests.{lt-ltb, le-ltb, eq-eqb, cases-order, ltb-true, cases-bool, false≢true}
+use Rattle.std.proofs.shelf.Tests.{ltb-true}
 use Rattle.std.proofs.shelf.Ways.{tells}
 use Rattle.meaning.specs.Value.{Value, Null, Num, Text, fits, less, same, lessZ, lessBytes}
 use Rattle.meaning.specs.Meaning.{sameAll, earlier}
-use Rattle.meaning.specs.Doing.{weight, weightAll, keyWeight}
-use Rattle.meaning.proofs.Order.{order-stands, clash, true-holds}
-use Rattle.values.specs.Bytes.{be, Bytes, turned}
+use Rattle.meaning.specs.Doing.{weight, weightAll}
+use Rattle.meaning.proofs.Order.{order-stands, true-holds}
+use Rattle.values.specs.Bytes.{be, Bytes}
 use Rattle.values.specs.Key.{lifted, escaped, risingCode, codeOf, code, Storable, KeysOrdered, KeysFollowed, KeysApart, KeysShort}
 use Rattle.values.proofs.Bytes.{length-be}
-use Rattle.values.proofs.Compared.{Verdict, Before, After, Alike, Compared, alike, before, after, more, next, opposite, verdict, decided, at-verdict, then-compared, turned-compared, compared-less, compared-same, ranked, be-compared, heads-compared}
+use Rattle.values.proofs.Compared.{Verdict, Before, After, Alike, Compared, alike, before, after, more, next, opposite, verdict, decided, at-verdict, then-compared, turned-compared, compared-less, compared-same, be-compared, heads-compared}
 
 -- a number that fits is below 2^63 in size
 

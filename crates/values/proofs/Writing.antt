@@ -1,10 +1,10 @@
 -- The steps of writing a key. Assumes nothing.
 use mathlib.Core.Path.{_≡_, refl, sym, ap, _∙_}
-use mathlib.Core.Bool.{Bool, true, false, cond}
-use mathlib.Core.List.{List, [], _∷_, _++_, map}
-use Prim.Native.Nat.{ℕ, zero, suc, _+_, _-_, _*_, _/_, _<_, _≤_}
+use mathlib.Core.Bool.{cond}
+use mathlib.Core.List.{List, [], _∷_}
+use Prim.Native.Nat.{ℕ, zero, suc, _+_, _-_, _<_, _≤_}
 use native.Mathlib.Omega.{arith}
-use lib.Dec.{leb, ltb}
+use lib.Dec.{ltb}
 use lib.IntN.{ℤ, pos, negsuc, _+ℤ_, _-ℤ_, natAbs}
 use lib.ListN.{length, getD, set, take, drop}
 use mir.Syntax.{w64, w128}
@@ -12,7 +12,6 @@ use mir.Val.{SFits, ofZ, toZ}
 use Rattle.std.proofs.shelf.Lists.{drop-more, drop-all, drop-set-lt, length-map}
 use Rattle.std.proofs.shelf.Signed.{toZ-ofZ, toZ-pos}
 use Rattle.std.proofs.shelf.Tests.{cond-false, cond-both, le-ltb}
-use Rattle.std.proofs.shelf.Ways.{tells}
 use Rattle.values.specs.Bytes.{part, put, turned}
 use Rattle.values.specs.Key.{lifted, escaped}
 use Rattle.values.specs.Row.{lowered}

@@ -8,7 +8,7 @@ ghost use lib.ListN.{length};
 ghost use Rattle.std.specs.declared.option.Option.the-variants.{Some, None};
 ghost use Rattle.meaning.specs.Doing.{weight};
 ghost use Rattle.values.specs.Meant.{meaningOf};
-ghost use Rattle.values.specs.Bytes.{part, put, be, turned};
+ghost use Rattle.values.specs.Bytes.{part, put, turned};
 ghost use Rattle.values.specs.Key.{lifted, escaped, risingCode, codeOf, Storable, KeysOrdered, KeysFollowed, KeysApart, KeysShort};
 use crate::Value;
 use crate::digits::put_u64;

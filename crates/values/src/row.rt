@@ -1,8 +1,7 @@
 // Rows as bytes: a null takes 1 byte, a number 9, a text 3 and its own, which is what they weigh. Bytes that are no row are told apart, and no byte past them is read.
 ghost use mathlib.Core.Path.{_≡_};
-ghost use mathlib.Core.Bool.{cond, _&&_};
+ghost use mathlib.Core.Bool.{cond};
 ghost use mathlib.Core.List.{_++_};
-ghost use lib.Dec.{leb};
 ghost use Prim.Native.Nat.{_+_, _≤_};
 ghost use lib.ListN.{length};
 ghost use Rattle.std.specs.Options.{mapped};

@@ -1,4 +1,3 @@
-use borrow.Author.Needs.{needs}
 use Rattle.values.proofs.Unescaping.{columns-read, columns-written}
 use Rattle.values.proofs.back.columns_stand.Needs as need
 

@@ -1,4 +1,3 @@
-use borrow.Author.Needs.{needs}
 use native.Mathlib.Omega.{arith}
 use Rattle.values.proofs.Unescaping.{none-left, byte-left, one-left, end-left, zero-left, broken-left}
 use Rattle.values.proofs.back.next_byte.Needs as need

@@ -1,4 +1,3 @@
-use borrow.Author.Needs.{needs}
 use Rattle.values.proofs.Unescaping.{text-back-is}
 use Rattle.values.proofs.back.text_back.Needs as need
 

@@ -1,4 +1,3 @@
-use borrow.Author.Needs.{needs}
 use Rattle.values.proofs.Writing.{lift-is}
 use Rattle.values.proofs.key.lift.Needs as need
 

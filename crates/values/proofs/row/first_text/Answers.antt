@@ -1,4 +1,3 @@
-use borrow.Author.Needs.{needs}
 use Rattle.values.proofs.Rows.{text-front}
 use Rattle.values.proofs.row.first_text.Needs as need
 

@@ -1,4 +1,3 @@
-use borrow.Author.Needs.{needs}
 use native.Mathlib.Omega.{arith}
 use Rattle.values.proofs.Writing.{lower-is}
 use Rattle.values.proofs.row.lower.Needs as need

@@ -1,4 +1,3 @@
-use borrow.Author.Needs.{needs}
 use Rattle.values.proofs.Rows.{rows-read, rows-written, rows-columns, rows-weigh}
 use Rattle.values.proofs.row.rows_stand.Needs as need
 
