@@ -294,12 +294,6 @@ text-front bs n e h =
     ∙ ap (λ k. textFront k (drop 2 bs)) e
     ∙ sym (cond-true (leb 2 (length bs)) _ _ (le-leb 2 (length bs) (omega arith)))
 
-pub text-cut : (bs : List ℕ) (n : ℕ) → n ≡ number 256 (part bs 0 2) → 2 ≤ length bs → length bs < 2 + n → None ≡ frontOf 2 bs
-text-cut bs n e h l =
-    sym (cond-false (leb n (length (drop 2 bs))) _ _ (lt-leb n (length (drop 2 bs)) (let k = length-drop 2 bs in omega arith)))
-    ∙ ap (λ k. textFront k (drop 2 bs)) e
-    ∙ sym (cond-true (leb 2 (length bs)) _ _ (le-leb 2 (length bs) h))
-
 -- a count of columns begins, goes on and ends
 pub count-start : (o : Option (List Value)) → mapped (λ (vs : List Value). 0 + length vs) o ≡ mapped (λ (vs : List Value). length vs) o
 count-start None = refl
