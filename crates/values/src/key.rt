@@ -6,6 +6,7 @@ ghost use Prim.Native.Nat.{_+_, _*_, _-_, _≤_};
 ghost use lib.Dec.{leb};
 ghost use lib.ListN.{length};
 ghost use Rattle.std.specs.declared.option.Option.the-variants.{Some, None};
+ghost use Rattle.meaning.specs.Value.{lessBytes};
 ghost use Rattle.meaning.specs.Doing.{weight};
 ghost use Rattle.values.specs.Meant.{meaningOf};
 ghost use Rattle.values.specs.Bytes.{part, put, turned};
@@ -28,6 +29,13 @@ pub fn keys_stand() -> u8
     ensures short { λ _. ⌜ KeysShort ⌝ }
 {
     0
+}
+
+// The order of keys, whatever follows them: that of their bytes.
+pub fn less(a: &[u8], b: &[u8]) -> bool
+    ensures { λ r. ⌜ r ≡ lessBytes (now (a .entry)) (now (b .entry)) ⌝ }
+{
+    a < b
 }
 
 // A column of a key, written at `at`: the place behind it. Nothing is written where 1 and twice the value's weight have no room there.
