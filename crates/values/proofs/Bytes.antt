@@ -4,20 +4,19 @@ use mathlib.Core.Bool.{Bool, true, false}
 use mathlib.Core.List.{List, [], _∷_, _++_, append-assoc, append-nil}
 use Prim.Native.Nat.{ℕ, zero, suc, _+_, _-_, _*_, _/_, _%_, _^_, _<_, _≤_}
 use native.Mathlib.Omega.{arith}
-use lib.ListN.{length, getD, set, take, drop}
 use native.Mathlib.Nat.{pow-suc, div-div-eq-div-mul}
-use Rattle.std.proofs.shelf.Lists.{length-push}
-use Rattle.std.proofs.shelf.Bits.{div-below, div-add-mod'}
 use borrow.Author.Needs.{needs}
 use borrow.Rule.Slice.PartMut.{putMid}
-use Rattle.std.proofs.shelf.Lists.{nil-from-length, take-more, take-all, length-take-le, take-more-set, drop-set-lt, drop-drop, drop-more, same-lists, places, length-set}
-use Rattle.std.proofs.shelf.Tests.{eq-eqb, lt-ltb, le-ltb}
 use lib.Dec.{ltb}
-use Rattle.meaning.specs.Value.{Text, less, same, lessBytes}
-use Rattle.meaning.proofs.Order.{order-stands, holds-true, true-holds}
+use lib.ListN.{length, getD, set, take, drop}
 use Rattle.std.specs.shelf.Digits.{number}
+use Rattle.std.proofs.shelf.Bits.{div-below, div-add-mod'}
 use Rattle.std.proofs.shelf.Digits.{number-push}
 use Rattle.std.proofs.shelf.Elements.{all-getD, all-take}
+use Rattle.std.proofs.shelf.Lists.{length-push, nil-from-length, take-more, take-all, length-take-le, take-more-set, drop-set-lt, drop-drop, drop-more, same-lists, places, length-set}
+use Rattle.std.proofs.shelf.Tests.{eq-eqb, lt-ltb, le-ltb}
+use Rattle.meaning.specs.Value.{Text, less, same, lessBytes}
+use Rattle.meaning.proofs.Order.{order-stands, holds-true, true-holds}
 use Rattle.values.specs.Bytes.{part, put, be, Bytes}
 
 -- a write to `s[a..a + k]`

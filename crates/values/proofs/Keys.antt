@@ -1,7 +1,7 @@
 -- Keys as bytes: their order, that none begins another, their length. Assumes nothing.
 use mathlib.Core.Path.{_≡_, refl, sym, ap, _∙_}
 use mathlib.Core.Bool.{Bool, true, false, cond, not, _&&_, _||_}
-use mathlib.Core.List.{List, [], _∷_, append-nil}
+use mathlib.Core.List.{List, [], _∷_, _++_, append-nil, append-assoc}
 use Prim.Native.Nat.{ℕ, zero, suc, _+_, _-_, _*_, _/_, _%_, _^_, _<_, _≤_}
 use native.Mathlib.Omega.{arith}
 use lib.Dec.{ltb}
@@ -14,7 +14,7 @@ use Rattle.std.proofs.shelf.Tests.{ltb-true}
 use Rattle.std.proofs.shelf.Ways.{tells}
 use Rattle.meaning.specs.Value.{Value, Null, Num, Text, fits, less, same, lessZ, lessBytes}
 use Rattle.meaning.specs.Meaning.{sameAll, earlier}
-use Rattle.meaning.specs.Doing.{weight, weightAll}
+use Rattle.meaning.specs.Doing.{weight, weightAll, keyWeight}
 use Rattle.meaning.proofs.Order.{order-stands, true-holds}
 use Rattle.values.specs.Bytes.{be, Bytes}
 use Rattle.values.specs.Key.{lifted, escaped, risingCode, codeOf, code, Storable, KeysOrdered, KeysFollowed, KeysApart, KeysShort}
@@ -214,6 +214,35 @@ length-code true v = length-map (risingCode v) (λ (b : ℕ). 255 - b)
 pub column-short : (d : Bool) (v : Value) → length (codeOf d v) ≤ 2 * weight v + 1
 column-short d v = let e = length-code d v in let h = length-rising v in omega arith
 
+pub keys-short : KeysShort
+unfolding code weightAll
+keys-short [] vs = omega arith
+keys-short (d ∷ ds) [] = omega arith
+keys-short (d ∷ ds) (v ∷ vs) = let h = keys-short ds vs in let k = column-short d v in simp length-append (omega arith)
+
+-- for whoever writes a key column by column
+
+pub code-push : (ds : List Bool) (vs : List Value) (d : Bool) (v : Value) → length vs ≡ length ds → code (ds ++ (d ∷ [])) (vs ++ (v ∷ [])) ≡ code ds vs ++ codeOf d v
+unfolding code
+code-push [] [] d v e = append-nil (codeOf d v)
+code-push [] (w ∷ vs) d v e = absurd (omega arith)
+code-push (c ∷ ds) [] d v e = absurd (omega arith)
+code-push (c ∷ ds) (w ∷ vs) d v e = ap (λ t. codeOf c w ++ t) (code-push ds vs d v (omega arith)) ∙ sym (append-assoc (codeOf c w) (code ds vs) (codeOf d v))
+
+weight-append : (vs ws : List Value) → weightAll (vs ++ ws) ≡ weightAll vs + weightAll ws
+unfolding weightAll
+weight-append [] ws = omega arith
+weight-append (v ∷ vs) ws = let e = weight-append vs ws in omega arith
+
+-- the room that a column asks for is there, where the whole key's is
+pub column-room : (ds : List Bool) (vs : List Value) (v : Value) (ws : List Value) → length (code ds vs) + (2 * weight v + 1) ≤ keyWeight (vs ++ (v ∷ ws))
+unfolding weightAll
+column-room ds vs v ws =
+    let h = keys-short ds vs in
+    let w = weight-append vs (v ∷ ws) in
+    let l = length-append vs (v ∷ ws) in
+    omega arith
+
 -- the theorems
 
 pub keys-ordered : KeysOrdered
@@ -228,9 +257,3 @@ keys-followed ds xs ys r s h k e f = compared-less r s (keys-compared ds xs ys h
 
 pub keys-apart : KeysApart
 keys-apart ds xs ys r s h k e f g = let p = compared-same r s (keys-compared ds xs ys h k (e ∙ sym f)) g in (columns-alike ds xs ys e f (p .0), p .1)
-
-pub keys-short : KeysShort
-unfolding code weightAll
-keys-short [] vs = omega arith
-keys-short (d ∷ ds) [] = omega arith
-keys-short (d ∷ ds) (v ∷ vs) = let h = keys-short ds vs in let k = column-short d v in simp length-append (omega arith)

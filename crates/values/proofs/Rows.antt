@@ -1,7 +1,7 @@
 -- Rows as bytes: what is written is read, and what is read was written. Assumes nothing.
 use mathlib.Core.Path.{_≡_, refl, sym, ap, subst, _∙_}
 use mathlib.Core.Bool.{Bool, true, false, cond}
-use mathlib.Core.List.{List, [], _∷_, _++_, append-assoc}
+use mathlib.Core.List.{List, [], _∷_, _++_, append-assoc, append-nil}
 use mathlib.Core.Logic.{_⊎_, inl, inr}
 use Prim.Native.Nat.{ℕ, zero, suc, _+_, _-_, _<_, _≤_}
 use native.Mathlib.Omega.{arith}
@@ -230,6 +230,12 @@ row-written (suc f) (x ∷ bs) vs b e = go (front (x ∷ bs)) refl (row-written 
 
 pub rows-written : RowsWritten
 rows-written bs vs b e = row-written (length bs) bs vs b e
+
+-- for whoever writes a row value by value
+pub row-push : (vs : List Value) (v : Value) → rowBytes (vs ++ (v ∷ [])) ≡ rowBytes vs ++ bytesOf v
+unfolding rowBytes
+row-push [] v = append-nil (bytesOf v)
+row-push (w ∷ vs) v = ap (λ t. bytesOf w ++ t) (row-push vs v) ∙ sym (append-assoc (bytesOf w) (rowBytes vs) (bytesOf v))
 
 -- columns
 

@@ -2,13 +2,14 @@
 use mathlib.Core.Path.{_≡_}
 use mathlib.Core.Bool.{Bool, cond, _&&_, _||_}
 use mathlib.Core.List.{List, [], _∷_, _++_}
-use Prim.Native.Nat.{ℕ, zero, suc, _+_, _-_, _≤_}
+use Prim.Native.Nat.{ℕ, zero, suc, _+_, _-_, _*_, _≤_}
+use lib.Dec.{leb}
 use lib.ListN.{length}
 use lib.IntN.{ℤ, pos, negsuc}
 use Rattle.std.specs.shelf.Lists.{All}
 use Rattle.meaning.specs.Value.{Value, Null, Num, Text, fits, lessBytes}
 use Rattle.meaning.specs.Meaning.{sameAll, earlier}
-use Rattle.meaning.specs.Doing.{keyWeight}
+use Rattle.meaning.specs.Doing.{weight, keyWeight}
 use Rattle.values.specs.Bytes.{be, Bytes, turned}
 
 -- a number as one that is not negative: 2^63 is added
@@ -31,6 +32,10 @@ risingCode (Text t) = 3 ∷ escaped t
 -- a column of a key; a falling one has each byte taken from 255
 abbrev pub codeOf : (falling : Bool) → Value → List ℕ
 codeOf falling v = cond falling (turned (risingCode v)) (risingCode v)
+
+-- a column of a key has room behind `at`: 1 and twice the value's weight, as many bytes as it can take
+abbrev pub columnRoom : List ℕ → ℕ → Value → Bool
+columnRoom out at v = leb (at + (2 * weight v + 1)) (length out)
 
 -- a key: its columns one behind the other
 unfoldable pub code : List Bool → List Value → List ℕ

@@ -14,6 +14,7 @@ meaningOf Null = M.Null
 meaningOf (Number n) = M.Num n
 meaningOf (Text t) = M.Text (t .now)
 
+-- the three answers of a test
 abbrev pub truthOf : Truth → M.Truth
 truthOf Holds = M.Holds
 truthOf Fails = M.Fails

@@ -3,23 +3,22 @@
 ghost use mathlib.Core.Path.{_≡_};
 ghost use mathlib.Core.Bool.{cond};
 ghost use Prim.Native.Nat.{_+_, _*_, _-_, _≤_};
-ghost use lib.Dec.{leb};
 ghost use lib.ListN.{length};
 ghost use Rattle.std.specs.declared.option.Option.the-variants.{Some, None};
 ghost use Rattle.meaning.specs.Value.{lessBytes};
 ghost use Rattle.meaning.specs.Doing.{weight};
 ghost use Rattle.values.specs.Meant.{meaningOf};
 ghost use Rattle.values.specs.Bytes.{part, put, turned};
-ghost use Rattle.values.specs.Key.{lifted, escaped, risingCode, codeOf, Storable, KeysOrdered, KeysFollowed, KeysApart, KeysShort};
+ghost use Rattle.values.specs.Key.{lifted, escaped, risingCode, codeOf, columnRoom, Storable, KeysOrdered, KeysFollowed, KeysApart, KeysShort};
 use crate::Value;
 use crate::digits::put_u64;
 
 // The first byte of a column: nulls come before numbers, numbers before texts.
-pub const NULL: u8 = 1;
+pub(crate) const NULL: u8 = 1;
 
-pub const NUMBER: u8 = 2;
+pub(crate) const NUMBER: u8 = 2;
 
-pub const TEXT: u8 = 3;
+pub(crate) const TEXT: u8 = 3;
 
 // Comparing keys is comparing values, whatever follows the keys; none is a beginning of another, and none is long.
 pub fn keys_stand() -> u8
@@ -41,8 +40,8 @@ pub fn less(a: &[u8], b: &[u8]) -> bool
 // A column of a key, written at `at`: the place behind it. Nothing is written where 1 and twice the value's weight have no room there.
 pub fn write_column(value: Value, falling: bool, out: &mut [u8], at: usize) -> Option<usize>
     ensures storable { λ _. ⌜ Storable (meaningOf (value .entry)) ⌝ }
-    ensures place { λ r. ⌜ r ≡ cond (leb (at + (2 * weight (meaningOf (value .entry)) + 1)) (length (now (out .entry)))) (Some (at + length (codeOf falling (meaningOf (value .entry))))) None ⌝ }
-    ensures bytes { λ _. ⌜ now (out .exit) ≡ cond (leb (at + (2 * weight (meaningOf (value .entry)) + 1)) (length (now (out .entry)))) (put (now (out .entry)) at (codeOf falling (meaningOf (value .entry)))) (now (out .entry)) ⌝ }
+    ensures place { λ r. ⌜ r ≡ cond (columnRoom (now (out .entry)) at (meaningOf (value .entry))) (Some (at + length (codeOf falling (meaningOf (value .entry))))) None ⌝ }
+    ensures bytes { λ _. ⌜ now (out .exit) ≡ cond (columnRoom (now (out .entry)) at (meaningOf (value .entry))) (put (now (out .entry)) at (codeOf falling (meaningOf (value .entry)))) (now (out .entry)) ⌝ }
 {
     let weight = value.weight();
     if at >= out.len() || weight > (out.len() - at - 1) / 2 {

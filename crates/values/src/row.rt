@@ -114,7 +114,7 @@ pub fn first_value<'a>(bytes: &'a [u8]) -> Option<First<'a, 'a>>
     }
 }
 
-pub fn first_number<'v, 'r>(bytes: &'r [u8]) -> Option<First<'v, 'r>>
+pub(crate) fn first_number<'v, 'r>(bytes: &'r [u8]) -> Option<First<'v, 'r>>
     ensures { λ r. ⌜ mapped seen r ≡ frontOf 1 (now (bytes .entry)) ⌝ }
 {
     if bytes.len() < 8 {
