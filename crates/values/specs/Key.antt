@@ -57,6 +57,10 @@ KeysOrdered = (ds : List Bool) (xs ys : List Value) → All Storable xs → All 
 abbrev pub KeysFollowed : Type 0
 KeysFollowed = (ds : List Bool) (xs ys : List Value) (r s : List ℕ) → All Storable xs → All Storable ys → length xs ≡ length ds → length ys ≡ length ds → lessBytes (code ds xs ++ r) (code ds ys ++ s) ≡ (earlier ds xs ys || (sameAll xs ys && lessBytes r s))
 
+-- the test of two strings of bytes that begin with keys is that of the keys, and where these are the same, of what follows them
+abbrev pub OrdersKeys : List ℕ → List ℕ → Bool → Type 0
+OrdersKeys a b t = (ds : List Bool) (xs ys : List Value) (r s : List ℕ) → All Storable xs → All Storable ys → length xs ≡ length ds → length ys ≡ length ds → a ≡ code ds xs ++ r → b ≡ code ds ys ++ s → t ≡ (earlier ds xs ys || (sameAll xs ys && lessBytes r s))
+
 -- no key is a beginning of another: whatever follows, the same bytes are the same key and the same rest
 abbrev pub KeysApart : Type 0
 KeysApart = (ds : List Bool) (xs ys : List Value) (r s : List ℕ) → All Storable xs → All Storable ys → length xs ≡ length ds → length ys ≡ length ds → code ds xs ++ r ≡ code ds ys ++ s → (xs ≡ ys) × (r ≡ s)

@@ -9,7 +9,7 @@ ghost use Rattle.meaning.specs.Value.{lessBytes};
 ghost use Rattle.meaning.specs.Doing.{weight};
 ghost use Rattle.values.specs.Meant.{meaningOf};
 ghost use Rattle.values.specs.Bytes.{part, put, turned};
-ghost use Rattle.values.specs.Key.{lifted, escaped, risingCode, codeOf, columnRoom, Storable, KeysOrdered, KeysFollowed, KeysApart, KeysShort};
+ghost use Rattle.values.specs.Key.{lifted, escaped, risingCode, codeOf, columnRoom, Storable, OrdersKeys, KeysOrdered, KeysFollowed, KeysApart, KeysShort};
 use crate::Value;
 use crate::digits::put_u64;
 
@@ -30,9 +30,10 @@ pub fn keys_stand() -> u8
     0
 }
 
-// The order of keys, whatever follows them: that of their bytes.
+// The order of keys, each with what follows it: that of their bytes, which is that of their values.
 pub fn less(a: &[u8], b: &[u8]) -> bool
-    ensures { λ r. ⌜ r ≡ lessBytes (now (a .entry)) (now (b .entry)) ⌝ }
+    ensures bytes { λ r. ⌜ r ≡ lessBytes (now (a .entry)) (now (b .entry)) ⌝ }
+    ensures keys { λ r. ⌜ OrdersKeys (now (a .entry)) (now (b .entry)) r ⌝ }
 {
     a < b
 }
