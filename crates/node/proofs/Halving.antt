@@ -7,7 +7,7 @@ use Prim.Native.Nat.{ℕ, _+_, _<_, _≤_}
 use native.Mathlib.Omega.{arith}
 use Rattle.std.proofs.shelf.Tests.{cases-lt}
 use Rattle.meaning.specs.Value.{lessBytes}
-use Rattle.tree.proofs.Order.{less-trans, never}
+use Rattle.bytes.proofs.Order.{less-trans, never}
 use Rattle.node.specs.Node.{keyAt, Sorted}
 
 module _ (page k : List ℕ) (n m : ℕ) (s : Sorted page n) (h : m < n) where

@@ -13,7 +13,7 @@ use Rattle.std.proofs.shelf.Tests.{cases-lt, lt-ltb, le-ltb, le-leb, lt-leb}
 use Rattle.tree.specs.Entries.{Entry}
 use Rattle.tree.specs.Pages.{Page, weigh}
 use Rattle.tree.specs.Bytes.{taken}
-use Rattle.tree.proofs.Order.{clash}
+use Rattle.bytes.proofs.Order.{clash}
 use Rattle.node.proofs.Weights.{weighs}
 use Rattle.node.specs.Node.{countIn, entriesTo, entriesIn, Formed, Cleared, Pushed}
 use Rattle.node.specs.Joiner.{pagesTo, onLast, spare, joinOn}

@@ -64,8 +64,7 @@ fn start(heap: Global, seed: u64) -> Result<Play, AllocError> {
 
 // The next number to choose by.
 fn next(play: &mut Play) -> u64 {
-    play.state = play
-        .state
+    play.state = play.state
         .wrapping_mul(6364136223846793005)
         .wrapping_add(1442695040888963407);
     play.state / 4294967296
@@ -196,12 +195,7 @@ fn rehearse(rt: &LibcRuntime, seed: u64, rounds: u32) -> io::Result<()> {
     println!(
         rt,
         "seed {seed}, rounds {rounds}: puts {}, gets {}, commits {}, undos {}, cuts {}, wrong {}",
-        d.puts,
-        d.gets,
-        d.commits,
-        d.undos,
-        d.cuts,
-        d.wrong
+        d.puts, d.gets, d.commits, d.undos, d.cuts, d.wrong
     )
 }
 
@@ -209,9 +203,7 @@ fn say(rt: &LibcRuntime, what: &str, asks: Asks) -> io::Result<()> {
     println!(
         rt,
         "{what}: sectors read {}, written {}, syncs {}",
-        asks.reads,
-        asks.writes,
-        asks.syncs
+        asks.reads, asks.writes, asks.syncs
     )
 }
 

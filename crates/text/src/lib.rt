@@ -21,7 +21,6 @@ pub use nodes::Question;
 pub use nodes::Span;
 pub use nodes::Statement;
 pub use parts::Refusal;
-
 use statements::statement;
 use tokens::Tok;
 use tokens::next;

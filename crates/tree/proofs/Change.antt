@@ -20,7 +20,7 @@ use Rattle.tree.proofs.Joins.{weigh-append, concat-append, join-concat, join-a
 use Rattle.tree.proofs.Bound.{all-left, all-right, leaf-bound, five, weigh-most, space-bound}
 use Rattle.tree.proofs.Spread.{level-any, level-edit, drop-run}
 use Rattle.tree.proofs.Edits.{under-under}
-use Rattle.tree.proofs.Order.{less-from, from-less}
+use Rattle.bytes.proofs.Order.{less-from, from-less}
 use Rattle.tree.proofs.Look.{belongs-parts}
 use Rattle.tree.proofs.Rise.{heads-rise, applies-append, dels-run, puts-run}
 

@@ -12,7 +12,7 @@ use Rattle.std.proofs.shelf.Elements.{all-append, all-weaker}
 use Rattle.meaning.specs.Value.{lessBytes}
 use Rattle.tree.specs.Entries.{Entry, enter, takeOut, Edit, put, del, Puts, spot, apply, applies, edited}
 use Rattle.tree.specs.Pages.{Page, weigh, concat, Fits, kept, segments, parts, pieces}
-use Rattle.tree.proofs.Order.{clash, less-same}
+use Rattle.bytes.proofs.Order.{clash, less-same}
 use Rattle.tree.proofs.Joins.{weigh-append, concat-append}
 use Rattle.tree.proofs.Edits.{applies-all}
 

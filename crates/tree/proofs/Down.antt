@@ -14,7 +14,7 @@ use Rattle.tree.specs.Pages.{Page, concat}
 use Rattle.tree.specs.Tree.{Node, head, heads, pages, entries}
 use Rattle.tree.specs.Look.{lead, either, nextAbove, nextIn, downNext, firstOf, orElse, firstAt, seekFrom, seekBefore, Over, NotUnder, Reached, Chosen, Belongs, ChosenUnder, LastUnder, Child, pick, pickUnder, child, down, Stored, InStore, Reaches}
 use Rattle.tree.specs.Laws.{DownReaches, DownUnder, DownExact, DownBefore, SeekFrom, SeekBefore, SeekLeaf, NamesApart}
-use Rattle.tree.proofs.Order.{never, less-same, less-trans, less-asym, less-from, from-less}
+use Rattle.bytes.proofs.Order.{never, less-same, less-trans, less-asym, less-from, from-less}
 use Rattle.tree.proofs.Bound.{all-left, all-right}
 use Rattle.tree.proofs.Spread.{rising-left, rising-right, rising-under}
 use Rattle.tree.proofs.Rise.{heads-append, heads-rising}

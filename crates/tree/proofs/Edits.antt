@@ -9,7 +9,7 @@ use Rattle.std.proofs.shelf.Tests.{cond-both, or-parts, or-left, or-right}
 use Rattle.std.proofs.shelf.Elements.{all-weaker}
 use Rattle.meaning.specs.Value.{lessBytes}
 use Rattle.tree.specs.Entries.{Entry, enter, takeOut, Above, Under, From, Rising, Edit, put, del, Puts, spot, apply, applies, lower, upper}
-use Rattle.tree.proofs.Order.{clash, never, less-trans, less-asym, less-same, less-neither, less-from, from-less}
+use Rattle.bytes.proofs.Order.{clash, never, less-trans, less-asym, less-same, less-neither, less-from, from-less}
 
 -- what holds of every entry
 pub enter-all : (P : Entry → Type 0) (e : Entry) (xs : List Entry) → P e → All P xs → All P (enter e xs)

@@ -1,4 +1,3 @@
-pub mod Order
 pub mod Joins
 pub mod Window
 pub mod Bound

@@ -13,7 +13,7 @@ use Rattle.tree.specs.Pages.{Page, concat}
 use Rattle.tree.specs.Tree.{Node, head, heads, pages, entries}
 use Rattle.tree.specs.Look.{lead, either, Over, NotUnder, Reached, Chosen, Belongs, ChosenUnder, LastUnder, Child, firstOf, orElse}
 use Rattle.tree.specs.Laws.{AtStep, UnderStep, BelongsParts, FirstFound, LastFound, NoneFound, SameLead}
-use Rattle.tree.proofs.Order.{clash, never, less-trans, less-asym, less-from, from-less}
+use Rattle.bytes.proofs.Order.{clash, never, less-trans, less-asym, less-from, from-less}
 use Rattle.tree.proofs.Joins.{concat-append}
 use Rattle.tree.proofs.Bound.{all-left, all-right}
 use Rattle.tree.proofs.Edits.{under-under, under-above}

@@ -17,7 +17,7 @@ use Rattle.tree.specs.Entries.{Entry, enter, takeOut, Reply, Nothing, Found, f
 use Rattle.tree.specs.Look.{orElse}
 use Rattle.tree.specs.Many.{prefixed, tag, tagged, together, at, isOf, own, ManyMaps, ManyRise}
 use Rattle.tree.proofs.Edits.{apply-under, apply-above}
-use Rattle.tree.proofs.Order.{less-asym}
+use Rattle.bytes.proofs.Order.{less-asym}
 
 -- keys of one map go by what follows the number, keys of two by the number
 less-same-map : (m : ℕ) (a b : List ℕ) → lessBytes (prefixed m a) (prefixed m b) ≡ lessBytes a b

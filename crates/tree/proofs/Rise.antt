@@ -13,7 +13,7 @@ use Rattle.tree.specs.Entries.{Entry, firstKey, enter, takeOut, Above, Under, 
 use Rattle.tree.specs.Pages.{Page, weigh, concat, Fits, Apart, join}
 use Rattle.tree.specs.Tree.{Node, head, heads, pages, entries, Level, Stands, dels, puts, raised, singles, Linked, top, trim}
 use Rattle.tree.specs.Laws.{HeadsRise, NewLevel, TrimStands}
-use Rattle.tree.proofs.Order.{less-same}
+use Rattle.bytes.proofs.Order.{less-same}
 use Rattle.tree.proofs.Joins.{join-concat, join-fit, join-apart}
 use Rattle.tree.proofs.Bound.{all-left, all-right, inner-bound, heads-length, pages-length}
 use Rattle.tree.proofs.Edits.{apply-under, enter-first}

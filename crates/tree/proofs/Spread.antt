@@ -12,7 +12,7 @@ use Rattle.meaning.specs.Value.{lessBytes}
 use Rattle.tree.specs.Entries.{Entry, firstKey, Above, Under, From, Rising, Edit, Puts, spot, applies, lower, upper}
 use Rattle.tree.specs.Pages.{Page, weigh, concat, Fits, Apart, join, Beside, pieces, spread}
 use Rattle.tree.specs.Laws.{Edited, LevelAny, LevelEdit, PiecesFit}
-use Rattle.tree.proofs.Order.{less-same, less-asym, less-from}
+use Rattle.bytes.proofs.Order.{less-same, less-asym, less-from}
 use Rattle.tree.proofs.Joins.{concat-append, join-concat, join-fit}
 use Rattle.tree.proofs.Window.{window}
 use Rattle.tree.proofs.Bound.{all-left, all-right}

@@ -16,7 +16,7 @@ use Rattle.tree.specs.Tree.{Node, head, heads, pages, entries, Level, Linked, 
 use Rattle.tree.specs.Look.{lead, Over, Reached, Belongs}
 use Rattle.tree.specs.Change.{Replaced, Climbs, Topped, asIs, newTop, within}
 use Rattle.tree.specs.Laws.{Edited, WholeChange, WholeFirst, TouchedThree}
-use Rattle.tree.proofs.Order.{less-same, less-asym, less-from, from-less}
+use Rattle.bytes.proofs.Order.{less-same, less-asym, less-from, from-less}
 use Rattle.tree.proofs.Joins.{concat-append}
 use Rattle.tree.proofs.Bound.{all-left, all-right, heads-length, pages-length}
 use Rattle.tree.proofs.Rise.{new-level, trim-stands, heads-append, pages-append}

@@ -1,56 +1,19 @@
--- Parts of bytes, what a write leaves, numbers as bytes, and bytes in their order. Assumes nothing.
+-- Numbers as bytes, and writes to single bytes.
 use mathlib.Core.Path.{_≡_, refl, sym, ap, _∙_}
-use mathlib.Core.Bool.{Bool, true, false}
-use mathlib.Core.List.{List, [], _∷_, _++_, append-assoc, append-nil}
+use mathlib.Core.List.{List, [], _∷_, _++_, append-assoc}
 use Prim.Native.Nat.{ℕ, zero, suc, _+_, _-_, _*_, _/_, _%_, _^_, _<_, _≤_}
 use native.Mathlib.Omega.{arith}
 use native.Mathlib.Nat.{pow-suc, div-div-eq-div-mul}
 use borrow.Author.Needs.{needs}
 use borrow.Rule.Slice.PartMut.{putMid}
-use lib.Dec.{ltb}
 use lib.ListN.{length, getD, set, take, drop}
 use Rattle.std.specs.shelf.Digits.{number}
 use Rattle.std.proofs.shelf.Bits.{div-below, div-add-mod'}
 use Rattle.std.proofs.shelf.Digits.{number-push}
 use Rattle.std.proofs.shelf.Elements.{all-getD, all-take}
-use Rattle.std.proofs.shelf.Lists.{length-push, nil-from-length, take-more, take-all, length-take-le, take-more-set, drop-set-lt, drop-drop, drop-more, same-lists, places, length-set}
-use Rattle.std.proofs.shelf.Tests.{eq-eqb, lt-ltb, le-ltb}
-use Rattle.meaning.specs.Value.{Text, less, same, lessBytes}
-use Rattle.meaning.proofs.Order.{order-stands, holds-true, true-holds}
-use Rattle.values.specs.Bytes.{part, put, be, Bytes}
-
--- a write to `s[a..a + k]`
-pub put-is : (a k : ℕ) (xs ys zs : List ℕ) → ys ≡ zs → k ≡ length zs → putMid a k xs ys ≡ put xs a zs
-unfolding put
-put-is a k xs ys zs e f =
-    ap (λ t. take a xs ++ (t ++ drop k (drop a xs))) e
-    ∙ ap (λ t. take a xs ++ (zs ++ t)) (drop-drop k a xs ∙ ap (λ n. drop (a + n) xs) f)
-
-pub length-put : (xs ys : List ℕ) (a : ℕ) → a + length ys ≤ length xs → length (put xs a ys) ≡ length xs
-unfolding put
-length-put xs ys a h = search (needs, places)
-
--- one write right behind another is one write
-pub put-put : (xs ys zs : List ℕ) (a b : ℕ) → b ≡ a + length ys → a + length ys ≤ length xs → put (put xs a ys) b zs ≡ put xs a (ys ++ zs)
-unfolding put
-put-put xs ys zs a b e h = same-lists _ _ (search (needs, places)) (λ k d l. grind (arith, places))
-
--- what was written is read again
-pub part-put : (xs ys : List ℕ) (a n : ℕ) → n ≡ length ys → a + n ≤ length xs → part (put xs a ys) a n ≡ ys
-unfolding put
-part-put xs ys a n e h = same-lists _ _ (search (needs, places)) (λ k d l. grind (arith, places))
-
--- what lies before or behind stays
-pub part-before : (xs ys : List ℕ) (a b n : ℕ) → b + n ≤ a → a + length ys ≤ length xs → part (put xs a ys) b n ≡ part xs b n
-unfolding put
-part-before xs ys a b n e h = same-lists _ _ (search (needs, places)) (λ k d l. grind (arith, places))
-
-pub part-behind : (xs ys : List ℕ) (a b n : ℕ) → a + length ys ≤ b → a + length ys ≤ length xs → part (put xs a ys) b n ≡ part xs b n
-unfolding put
-part-behind xs ys a b n e h = same-lists _ _ (search (needs, places)) (λ k d l. grind (arith, places))
-
-pub length-part : (xs : List ℕ) (a n : ℕ) → a + n ≤ length xs → n ≡ length (part xs a n)
-length-part xs a n h = search (needs, places)
+use Rattle.std.proofs.shelf.Lists.{length-push, nil-from-length, take-more, take-all, length-take-le, take-more-set, drop-set-lt, drop-more, same-lists, places, length-set}
+use Rattle.values.specs.Bytes.{be, Bytes}
+use Rattle.bytes.specs.Parts.{part, put}
 
 pub length-be : (k n : ℕ) → length (be k n) ≡ k
 unfolding be
@@ -120,42 +83,3 @@ be-number (suc k) xs e h =
     (λ t. be k (high t) ++ (low t ∷ []))
     ∙ ap (λ t. t ++ (last ∷ [])) (be-number k front (length-take-le k xs (omega arith)) (all-take (λ (b : ℕ). b < 256) k xs h))
     ∙ whole
-
--- the order of bytes is one: it goes on, no two are each below the other, and bytes of which neither is below are the same
-
-pub less-trans : (a b c : List ℕ) → lessBytes a b ≡ true → lessBytes b c ≡ true → lessBytes a c ≡ true
-unfolding less
-less-trans a b c h k = holds-true (lessBytes a c) (order-stands .1 (Text a) (Text b) (Text c) (true-holds (lessBytes a b) h) (true-holds (lessBytes b c) k))
-
-pub less-asym : (a b : List ℕ) → lessBytes a b ≡ true → lessBytes b a ≡ true → ⊥
-unfolding less
-less-asym a b h k = order-stands .0 (Text a) (Text b) (true-holds (lessBytes a b) h) (true-holds (lessBytes b a) k)
-
-pub less-neither : (a b : List ℕ) → lessBytes a b ≡ false → lessBytes b a ≡ false → a ≡ b
-unfolding less
-less-neither a b h k = text-same a b (order-stands .2 (Text a) (Text b) (true-holds (same (Text a) (Text b)) (rw (h, k) refl)))
-  where
-    text-same : (a b : List ℕ) → Text a ≡ Text b → a ≡ b
-    text-same a b e = cc
-
-pub less-same : (a : List ℕ) → lessBytes a a ≡ false
-less-same a = go (lessBytes a a) refl
-  where
-    go : (t : Bool) → lessBytes a a ≡ t → lessBytes a a ≡ false
-    go true e = absurd (less-asym a a e e)
-    go false e = e
-
--- what two strings begin with alike doesn't count
-pub less-front : (front a b : List ℕ) → lessBytes (front ++ a) (front ++ b) ≡ lessBytes a b
-unfolding lessBytes
-less-front [] a b = refl
-less-front (x ∷ front) a b = rw (le-ltb x x (omega arith), eq-eqb x x refl) (less-front front a b)
-
--- a string comes right before those that it begins
-pub less-begins : (a b : List ℕ) → lessBytes a (a ++ b) ≡ ltb 0 (length b)
-unfolding lessBytes
-less-begins a b = ap (λ t. lessBytes t (a ++ b)) (sym (append-nil a)) ∙ less-front a [] b ∙ from-nil b
-  where
-    from-nil : (b : List ℕ) → lessBytes [] b ≡ ltb 0 (length b)
-    from-nil [] = refl
-    from-nil (y ∷ b) = sym (lt-ltb 0 (suc (length b)) (omega arith))

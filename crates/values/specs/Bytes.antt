@@ -1,16 +1,8 @@
--- Parts of bytes, what a write leaves, and numbers as bytes.
+-- Numbers as bytes, and bytes turned round.
 use mathlib.Core.List.{List, [], _∷_, _++_, map}
 use Prim.Native.Nat.{ℕ, zero, suc, _+_, _-_, _/_, _%_, _<_}
 use lib.ListN.{length, take, drop}
 use Rattle.std.specs.shelf.Lists.{All}
-
--- the n bytes from `at` on
-abbrev pub part : List ℕ → ℕ → ℕ → List ℕ
-part xs at n = take n (drop at xs)
-
--- xs with the bytes from `at` on replaced by ys
-unfoldable pub put : List ℕ → ℕ → List ℕ → List ℕ
-put xs at ys = take at xs ++ (ys ++ drop (at + length ys) xs)
 
 -- the last k digits of n to the base 256, the highest first
 unfoldable pub be : ℕ → ℕ → List ℕ

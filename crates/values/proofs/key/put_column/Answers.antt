@@ -3,9 +3,9 @@ use Prim.Native.Nat.{_+_}
 use lib.ListN.{length}
 use native.Mathlib.Omega.{arith}
 use Rattle.values.specs.Meant.{meaningOf}
-use Rattle.values.specs.Bytes.{put}
+use Rattle.bytes.specs.Parts.{put}
 use Rattle.values.specs.Key.{risingCode, codeOf}
-use Rattle.values.proofs.Bytes.{length-put}
+use Rattle.bytes.proofs.Parts.{length-put}
 use Rattle.values.proofs.Keys.{length-rising, length-code}
 use Rattle.values.proofs.Writing.{turned-put}
 use Rattle.values.proofs.key.put_column.Needs as need

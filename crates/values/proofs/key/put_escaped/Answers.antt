@@ -3,7 +3,7 @@ use mathlib.Core.List.{[]}
 use Prim.Native.Nat.{_+_}
 use lib.ListN.{length, getD, set, drop, length-set}
 use native.Mathlib.Omega.{arith}
-use Rattle.values.specs.Bytes.{put}
+use Rattle.bytes.specs.Parts.{put}
 use Rattle.values.specs.Key.{escaped}
 use Rattle.values.proofs.Bytes.{put-nil, put-cons, put-two}
 use Rattle.values.proofs.Writing.{left-zero, left-other, left-none}

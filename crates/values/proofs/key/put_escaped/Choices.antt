@@ -1,7 +1,7 @@
 use mathlib.Core.Path.{_≡_}
 use Prim.Native.Nat.{_+_, _-_, _*_, _≤_}
 use lib.ListN.{length, drop}
-use Rattle.values.specs.Bytes.{put}
+use Rattle.bytes.specs.Parts.{put}
 use Rattle.values.specs.Key.{escaped}
 use Rattle.values.proofs.key.put_escaped.Given as given
 

@@ -1,6 +1,7 @@
 use mathlib.Core.Path.{_≡_}
 use Prim.Native.Nat.{_-_}
-use Rattle.values.specs.Bytes.{part, put, turned}
+use Rattle.values.specs.Bytes.{turned}
+use Rattle.bytes.specs.Parts.{part, put}
 use Rattle.values.proofs.key.turn.Given as given
 
 -- what is left to be turned makes the same bytes

@@ -9,7 +9,8 @@ use native.Mathlib.Omega.{arith}
 use Rattle.std.proofs.shelf.Signed.{toZ-ofZ}
 use Rattle.meaning.specs.Doing.{weight}
 use Rattle.values.specs.Meant.{meaningOf}
-use Rattle.values.specs.Bytes.{put, be}
+use Rattle.values.specs.Bytes.{be}
+use Rattle.bytes.specs.Parts.{put}
 use Rattle.values.specs.Key.{lifted}
 use Rattle.values.specs.Row.{bytesOf}
 use Rattle.values.proofs.Bytes.{put-one, put-cons}
