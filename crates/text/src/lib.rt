@@ -8,6 +8,7 @@ ghost use Rattle.text.specs.Found.{ReadText};
 mod exprs;
 mod nodes;
 mod parts;
+mod printer;
 mod sources;
 mod statements;
 mod tokens;
@@ -21,6 +22,7 @@ pub use nodes::Question;
 pub use nodes::Span;
 pub use nodes::Statement;
 pub use parts::Refusal;
+pub use printer::print;
 
 use statements::statement;
 use tokens::Tok;
