@@ -1,12 +1,10 @@
 // Reads each line of standard input as a statement, and prints it as it was read, or `no 1` where it is none and `no 10` where it is too long.
 ghost use Prim.Native.Nat.{_≤_};
 ghost use lib.ListN.{length};
-
 use std::alloc::AllocError;
 use std::io;
 use std::io::Read;
 use std::io::Write;
-
 use text::Nodes;
 use text::Refusal;
 use text::print;

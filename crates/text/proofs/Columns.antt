@@ -54,13 +54,15 @@ col-got ts us vs ws n k b h e m = then-is _ h (col-rest n us ∙ then-is (λ k v
 
 pub kind-length : (ts us : List Token) (d : Bool) → kindOf ts ≡ gets d us → length us ≤ length ts
 kind-length ts us d h = elim (choose-inv (isWord kInt) (gets false) (past (isWord kText) (gets true)) ts h) [
-    inl c ↦ (let e = gets-inv (c .4) in omega (arith, ap length (c .2), ap length (e .1)))
-  | inr c ↦ (let p = past-word kText (gets true) ts (c .1) in let e = gets-inv (p .2) in omega (arith, ap length (p .1), ap length (e .1))) ]
+  | inl c ↦ (let e = gets-inv (c .4) in omega (arith, ap length (c .2), ap length (e .1)))
+  | inr c ↦ (let p = past-word kText (gets true) ts (c .1) in let e = gets-inv (p .2) in omega (arith, ap length (p .1), ap length (e .1)))
+]
 
 pub must-length : (ts us : List Token) (d : Bool) → must ts ≡ gets d us → length us ≤ length ts
 must-length ts us d h = elim (choose-inv (isWord kNot) (past (isWord kNull) (gets true)) (gets false) ts h) [
-    inl c ↦ (let p = past-word kNull (gets true) (c .1) (c .4) in let e = gets-inv (p .2) in omega (arith, ap length (c .2), ap length (p .1), ap length (e .1)))
-  | inr c ↦ (let e = gets-inv (c .1) in omega (arith, ap length (e .1))) ]
+  | inl c ↦ (let p = past-word kNull (gets true) (c .1) (c .4) in let e = gets-inv (p .2) in omega (arith, ap length (c .2), ap length (p .1), ap length (e .1)))
+  | inr c ↦ (let e = gets-inv (c .1) in omega (arith, ap length (e .1)))
+]
 
 -- a statement without nodes is one with any
 pub names-says : (b : List ℕ) (u : Nodes) (g h : Got Statement) (r : Option Said) → g ≡ h → Names b g r → Says b u h r

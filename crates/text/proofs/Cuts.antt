@@ -223,7 +223,7 @@ undoubled-none = refl
 -- one step: the next bytes stand for c
 module _ (s : List ℕ) (n k : ℕ) (front : List ℕ) (c : ℕ) where
   quoting-step : Quoting s n → n + k ≤ length s → take (n + k) s ≡ take n s ++ front → drop n s ≡ front ++ drop (n + k) s →
-    ((x : List ℕ) → undoubled false (front ++ x) ≡ c ∷ undoubled false x) → ((t bs : List ℕ) → tokens (InQuotes t) (front ++ bs) ≡ tokens (InQuotes (t ++ (c ∷ []))) bs) → Quoting s (n + k)
+      ((x : List ℕ) → undoubled false (front ++ x) ≡ c ∷ undoubled false x) → ((t bs : List ℕ) → tokens (InQuotes t) (front ++ bs) ≡ tokens (InQuotes (t ++ (c ∷ []))) bs) → Quoting s (n + k)
   quoting-step q l more rest un go =
       let t = undoubled false (take n s) in
       let one : (x : List ℕ) → undoubled false (take (n + k) s ++ x) ≡ t ++ (c ∷ undoubled false x) = λ x. ap (λ v. undoubled false (v ++ x)) more ∙ ap (undoubled false) (append-assoc (take n s) front x) ∙ q .even (front ++ x) ∙ ap (λ v. t ++ v) (un x) in

@@ -39,10 +39,12 @@ key-got x ts us vs e d h k = then-is _ h (then-is (λ d vs. gets (record { by = 
 
 pub direction-length : (ts us : List Token) (d : Bool) → reader.direction ts ≡ gets d us → length us ≤ length ts
 direction-length ts us d h = elim (choose-inv (isWord kAsc) (gets false) (choose (isWord kDesc) (gets true) (gets false)) ts h) [
-    inl c ↦ (let e = gets-inv (c .4) in omega (arith, ap length (c .2), ap length (e .1)))
+  | inl c ↦ (let e = gets-inv (c .4) in omega (arith, ap length (c .2), ap length (e .1)))
   | inr c ↦ (elim (choose-inv (isWord kDesc) (gets true) (gets false) ts (c .1)) [
-      inl o ↦ (let e = gets-inv (o .4) in omega (arith, ap length (o .2), ap length (e .1)))
-    | inr o ↦ (let e = gets-inv (o .1) in omega (arith, ap length (e .1))) ]) ]
+    | inl o ↦ (let e = gets-inv (o .4) in omega (arith, ap length (o .2), ap length (e .1)))
+    | inr o ↦ (let e = gets-inv (o .1) in omega (arith, ap length (e .1)))
+  ])
+]
 
 pub joint-length : (ts us : List Token) {n l : ℕ} {op : Expr → Expr → Expr} (j : jointOf ts ≡ joins n l op) → us ≡ tailOf ts → length ts ≡ length us + 1
 joint-length [] us {n} {l} {op} j e = let z : _≡_ {A = ℕ} 0 1 = cc in absurd (omega arith)
@@ -59,8 +61,9 @@ stand-key b f h e d l j k i n s m t q = (j, k, n .at, omega (arith, n .last), om
 
 pub distinct-length : (ts us : List Token) (d : Bool) → choose (isWord kDistinct) (gets true) (gets false) ts ≡ gets d us → length us ≤ length ts
 distinct-length ts us d h = elim (choose-inv (isWord kDistinct) (gets true) (gets false) ts h) [
-    inl c ↦ (let e = gets-inv (c .4) in omega (arith, ap length (c .2), ap length (e .1)))
-  | inr c ↦ (let e = gets-inv (c .1) in omega (arith, ap length (e .1))) ]
+  | inl c ↦ (let e = gets-inv (c .4) in omega (arith, ap length (c .2), ap length (e .1)))
+  | inr c ↦ (let e = gets-inv (c .1) in omega (arith, ap length (e .1)))
+]
 
 -- a table with its alias, which is its own name where none stands after it
 pub source-got : (b : List ℕ) (ts : List Token) (n a : Named) (o : Option Named) → reader.aName ts ≡ gets (name b (n .span)) (tokensAt b (n .after)) → NameTaken b (tokensAt b (n .after)) o → a ≡ valueOr o n → reader.aSource ts ≡ gets (record { table = name b (n .span); alias = name b (a .span) }) (tokensAt b (a .after))

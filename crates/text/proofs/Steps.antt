@@ -65,21 +65,24 @@ as-condition b t u ts us g h (Some p) e l a = record { it = a .it; is = sym e �
 
 -- a new node over something that was read
 pub over : {A : Type 0} (S : List Node → A → ℕ → Type 0) (F : A → Part → Type 0) (keeps : (a : A) (f h : List Node) → Grown f h → (i : ℕ) → S f a i → S h a i) (mk : A → Expr) (kd : ℕ → Node) (b : List ℕ) →
-  ((f : List Node) (a : A) (i : ℕ) → Over f i kd (S f a) → Stands b f (mk a) i) → (t u v : Nodes) (ts us : List Token) (g : Got A) (p q : Part) (lvl m : ℕ) (h : Got reader.Part) →
-  (r : Read S F 2 b t u ts g p) → Pushed u v (kd (p .node)) (q .node) → q .aggregates ≡ aggregates (mk (r .it)) → q .level ≡ lvl → h ≡ gets (reader.part lvl (mk (r .it))) (tokensAt b (q .after)) →
-  2 * length (tokensAt b (q .after)) + m + 2 * length ts ≤ 2 * length (tokensAt b (p .after)) + 2 * length us + 1 → Read (StandsPart b) SaysPart m b t v us h q
+    ((f : List Node) (a : A) (i : ℕ) → Over f i kd (S f a) → Stands b f (mk a) i) → (t u v : Nodes) (ts us : List Token) (g : Got A) (p q : Part) (lvl m : ℕ) (h : Got reader.Part) →
+    (r : Read S F 2 b t u ts g p) → Pushed u v (kd (p .node)) (q .node) → q .aggregates ≡ aggregates (mk (r .it)) → q .level ≡ lvl → h ≡ gets (reader.part lvl (mk (r .it))) (tokensAt b (q .after)) →
+    2 * length (tokensAt b (q .after)) + m + 2 * length ts ≤ 2 * length (tokensAt b (p .after)) + 2 * length us + 1 → Read (StandsPart b) SaysPart m b t v us h q
 over S F keeps mk kd b stands t u v ts us g p q lvl m h r push agg level is l =
     let n = pushed u v (kd (p .node)) (q .node) push in
     record {
-      it = reader.part lvl (mk (r .it)); is = is;
+      it = reader.part lvl (mk (r .it));
+      is = is;
       stands = stands (filled v) (r .it) (q .node) (p .node, n .at, omega (arith, n .last, r .within), keeps (r .it) (filled u) (filled v) (n .grown) (p .node) (r .stands));
-      says = (agg, level); within = n .within; grown = grown-on (filled t) (filled u) (filled v) (r .grown) (n .grown);
+      says = (agg, level);
+      within = n .within;
+      grown = grown-on (filled t) (filled u) (filled v) (r .grown) (n .grown);
       few = omega (arith, r .few, n .more);
     }
 
 -- a leaf
 pub leaf-read : (b : List ℕ) (t u : Nodes) (us : List Token) (k : Node) (e : Expr) (q : Part) (m : ℕ) (h : Got reader.Part) → Pushed t u k (q .node) → ((f : List Node) (i : ℕ) → At f i k → Stands b f e i) → q .aggregates ≡ aggregates e → q .level ≡ 7 → h ≡ gets (reader.part 7 e) (tokensAt b (q .after)) →
-  2 * length (tokensAt b (q .after)) + m ≤ 2 * length us → Read (StandsPart b) SaysPart m b t u us h q
+    2 * length (tokensAt b (q .after)) + m ≤ 2 * length us → Read (StandsPart b) SaysPart m b t u us h q
 leaf-read b t u us k e q m h push stands agg level is l =
     let n = pushed t u k (q .node) push in
     record { it = reader.part 7 e; is = is; stands = stands (filled u) (q .node) (n .at); says = (agg, level); within = n .within; grown = n .grown; few = omega (arith, n .more) }

@@ -95,12 +95,14 @@ more-none (suc f) k e ts h = absurd (omega arith)
 
 -- a test for null is one turn
 pub tested-further : (b : List ℕ) (t u : Nodes) (us : List Token) (a : Part) (k f : ℕ) (r : Next) → ((e : reader.Part) → a .level ≡ e .level → reader.more (suc f) k e (tokensAt b (a .after)) ≡ andThen (nullTest us) (λ c vs. reader.more f k (reader.part 3 (tested c (e .it))) vs)) →
-  length (tokensAt b (a .after)) ≡ length us + 1 → Tested b t u us a r → Further b t u k f a r
+    length (tokensAt b (a .after)) ≡ length us + 1 → Tested b t u us a r → Further b t u k f a r
 tested-further b t u us a k f ways.Ends is l h = absurd h
 tested-further b t u us a k f ways.Fails is l h = λ e v. is e v ∙ then-refused (nullTest us) _ h
 tested-further b t u us a k f (ways.Goes p) is l h = record {
-    grown = h .2 .grown; few = omega (arith, h .2 .few);
-    goes = λ e s. let g = h .2 .goes e s in (g .0, is e (s .level) ∙ then-is (λ c vs. reader.more f k (reader.part 3 (tested c (e .it))) vs) (h .1) (ap (λ d. reader.more f k d (tokensAt b (p .after))) (sym (g .1))), g .2) }
+  grown = h .2 .grown;
+  few = omega (arith, h .2 .few);
+  goes = λ e s. let g = h .2 .goes e s in (g .0, is e (s .level) ∙ then-is (λ c vs. reader.more f k (reader.part 3 (tested c (e .it))) vs) (h .1) (ap (λ d. reader.more f k d (tokensAt b (p .after))) (sym (g .1))), g .2);
+}
 
 pub turns-left : (n : ℕ) → 0 < n → suc (n - 1) ≡ n
 turns-left n l = omega arith

@@ -14,7 +14,6 @@ ghost use Rattle.grammar.specs.Reader.{andThen, choose, past, gets, isSign, isW
 ghost use Rattle.text.specs.Cut.{tokensAt, Short, name as nameOf};
 ghost use Rattle.text.specs.Stands.{filled, At, folds as foldsTo};
 ghost use Rattle.text.specs.Found.{Pushed, Joined, Ready, Further, ReadsExpr, ReadsPart, ReadsCondition, ReadsExprs, ReadsKeys, ReadsQuery, ReadsGroups, Directed, ReadsAfter, Tested};
-
 use crate::nodes::Fold;
 use crate::nodes::Node;
 use crate::nodes::Nodes;
@@ -93,7 +92,13 @@ fn leaf(nodes: &mut Nodes, node: Node, after: Place) -> Part
     ensures { λ r. ⌜ Pushed (now (nodes .entry)) (now (nodes .exit)) node (r .node) ⌝ ∗ ⌜ r .level ≡ 7 ⌝ ∗ ⌜ r .aggregates ≡ false ⌝ ∗ ⌜ r .after ≡ after ⌝ }
 {
     let node = nodes.push(node);
-    Part { node, level: 7, aggregates: false, single: false, after }
+    Part {
+        node,
+        level: 7,
+        aggregates: false,
+        single: false,
+        after,
+    }
 }
 
 // A column, alone or of a source.
@@ -102,7 +107,11 @@ fn column(nodes: &mut Nodes, text: &[u8], name: Named) -> Option<Part>
     ensures { λ r. ⌜ ReadsAfter (now (text .entry)) (now (nodes .entry)) (now (nodes .exit)) (tokensAt (now (text .entry)) (name .after)) (reader.column (nameOf (now (text .entry)) (name .span)) (tokensAt (now (text .entry)) (name .after))) r ⌝ }
 {
     let Some(at) = take_sign(text, name.after, 46) else {
-        return Some(leaf(nodes, Node::Column(Span { from: 0, len: 0 }, name.span), name.after));
+        return Some(leaf(
+            nodes,
+            Node::Column(Span { from: 0, len: 0 }, name.span),
+            name.after,
+        ));
     };
     let Some(its) = take_name(text, at) else {
         return None;
@@ -121,13 +130,25 @@ fn tested(nodes: &mut Nodes, text: &[u8], a: Part, at: Place) -> Next
         };
         let null = nodes.push(Node::IsNull(a.node));
         let node = nodes.push(Node::Not(null));
-        return Next::Goes(Part { node, level: 3, aggregates: a.aggregates, single: false, after });
+        return Next::Goes(Part {
+            node,
+            level: 3,
+            aggregates: a.aggregates,
+            single: false,
+            after,
+        });
     }
     let Some(after) = take_key(text, at, b"null") else {
         return Next::Fails;
     };
     let node = nodes.push(Node::IsNull(a.node));
-    Next::Goes(Part { node, level: 3, aggregates: a.aggregates, single: false, after })
+    Next::Goes(Part {
+        node,
+        level: 3,
+        aggregates: a.aggregates,
+        single: false,
+        after,
+    })
 }
 
 // An expression of a level. The number left falls with each call; one more than there are tokens is enough.
@@ -183,7 +204,13 @@ fn further(nodes: &mut Nodes, text: &[u8], a: Part, level: u8, left: usize) -> N
         return Next::Fails;
     };
     let node = join(nodes, link.op, a.node, b.node);
-    Next::Goes(Part { node, level: of, aggregates: a.aggregates | b.aggregates, single: false, after: b.after })
+    Next::Goes(Part {
+        node,
+        level: of,
+        aggregates: a.aggregates | b.aggregates,
+        single: false,
+        after: b.after,
+    })
 }
 
 fn operand(nodes: &mut Nodes, text: &[u8], at: Place, level: u8, left: usize) -> Option<Part>
@@ -207,7 +234,13 @@ fn operand(nodes: &mut Nodes, text: &[u8], at: Place, level: u8, left: usize) ->
             return None;
         };
         let node = nodes.push(Node::Negated(a.node));
-        return Some(Part { node, level: 6, aggregates: a.aggregates, single: false, after: a.after });
+        return Some(Part {
+            node,
+            level: 6,
+            aggregates: a.aggregates,
+            single: false,
+            after: a.after,
+        });
     }
     keyed(nodes, text, at, level, left)
 }
@@ -235,7 +268,13 @@ fn bracket(nodes: &mut Nodes, text: &[u8], at: Place, left: usize) -> Option<Par
     let Some(after) = take_sign(text, a.after, 41) else {
         return None;
     };
-    Some(Part { node: a.node, level: 7, aggregates: a.aggregates, single: false, after })
+    Some(Part {
+        node: a.node,
+        level: 7,
+        aggregates: a.aggregates,
+        single: false,
+        after,
+    })
 }
 
 // What begins with a keyword.
@@ -278,7 +317,13 @@ fn negation(nodes: &mut Nodes, text: &[u8], at: Place, level: u8, left: usize) -
         return None;
     };
     let node = nodes.push(Node::Not(a.node));
-    Some(Part { node, level: 2, aggregates: a.aggregates, single: false, after: a.after })
+    Some(Part {
+        node,
+        level: 2,
+        aggregates: a.aggregates,
+        single: false,
+        after: a.after,
+    })
 }
 
 // After `exists`.
@@ -313,7 +358,13 @@ fn count(nodes: &mut Nodes, text: &[u8], at: Place, left: usize) -> Option<Part>
         return None;
     };
     let node = nodes.push(Node::RowCount);
-    Some(Part { node, level: 7, aggregates: true, single: false, after })
+    Some(Part {
+        node,
+        level: 7,
+        aggregates: true,
+        single: false,
+        after,
+    })
 }
 
 // After the word of an aggregate.
@@ -339,7 +390,13 @@ fn folded(nodes: &mut Nodes, text: &[u8], at: Place, by: Fold, left: usize) -> O
         return None;
     };
     let node = nodes.push(Node::Folded(by, a.node));
-    Some(Part { node, level: 7, aggregates: true, single: false, after })
+    Some(Part {
+        node,
+        level: 7,
+        aggregates: true,
+        single: false,
+        after,
+    })
 }
 
 // A list of expressions.
@@ -355,13 +412,25 @@ pub fn exprs(nodes: &mut Nodes, text: &[u8], at: Place, left: usize) -> Option<P
     };
     let Some(comma) = take_sign(text, e.after, 44) else {
         let node = nodes.push(Node::Item(e.node, 0));
-        return Some(Part { node, level: 0, aggregates: e.aggregates, single: true, after: e.after });
+        return Some(Part {
+            node,
+            level: 0,
+            aggregates: e.aggregates,
+            single: true,
+            after: e.after,
+        });
     };
     let Some(rest) = exprs(nodes, text, comma, left - 1) else {
         return None;
     };
     let node = nodes.push(Node::Item(e.node, rest.node));
-    Some(Part { node, level: 0, aggregates: e.aggregates | rest.aggregates, single: false, after: rest.after })
+    Some(Part {
+        node,
+        level: 0,
+        aggregates: e.aggregates | rest.aggregates,
+        single: false,
+        after: rest.after,
+    })
 }
 
 // The direction after a key; upwards where none is named.
@@ -375,7 +444,10 @@ fn direction(text: &[u8], at: Place) -> Way
     if let Some(after) = take_key(text, at, b"desc") {
         return Way { down: true, after };
     }
-    Way { down: false, after: at }
+    Way {
+        down: false,
+        after: at,
+    }
 }
 
 // A list of keys to sort by.
@@ -392,17 +464,35 @@ fn keys(nodes: &mut Nodes, text: &[u8], at: Place, left: usize) -> Option<Part>
     let way = direction(text, e.after);
     let Some(comma) = take_sign(text, way.after, 44) else {
         let node = nodes.push(Node::Key(e.node, way.down, 0));
-        return Some(Part { node, level: 0, aggregates: e.aggregates, single: false, after: way.after });
+        return Some(Part {
+            node,
+            level: 0,
+            aggregates: e.aggregates,
+            single: false,
+            after: way.after,
+        });
     };
     let Some(rest) = keys(nodes, text, comma, left - 1) else {
         return None;
     };
     let node = nodes.push(Node::Key(e.node, way.down, rest.node));
-    Some(Part { node, level: 0, aggregates: e.aggregates | rest.aggregates, single: false, after: rest.after })
+    Some(Part {
+        node,
+        level: 0,
+        aggregates: e.aggregates | rest.aggregates,
+        single: false,
+        after: rest.after,
+    })
 }
 
 // An expression after a word; 1, which always holds, where the word is missing.
-pub fn condition(nodes: &mut Nodes, text: &[u8], at: Place, word: &[u8], left: usize) -> Option<Part>
+pub fn condition(
+    nodes: &mut Nodes,
+    text: &[u8],
+    at: Place,
+    word: &[u8],
+    left: usize,
+) -> Option<Part>
     requires { ⌜ Ready (now text) (now nodes) at ⌝ }
     ensures { λ r. ⌜ ReadsCondition (now (text .entry)) (now (nodes .entry)) (now (nodes .exit)) (tokensAt (now (text .entry)) at) (reader.condition (now (word .entry)) (reader.expr left) (tokensAt (now (text .entry)) at)) r ⌝ }
 {
@@ -419,7 +509,12 @@ fn groups(nodes: &mut Nodes, text: &[u8], at: Place, left: usize) -> Option<Grou
 {
     let Some(group) = take_key(text, at, b"group") else {
         let having = nodes.push(Node::Number(1));
-        return Some(Grouping { are: false, by: 0, having, after: at });
+        return Some(Grouping {
+            are: false,
+            by: 0,
+            having,
+            after: at,
+        });
     };
     let Some(by) = take_key(text, group, b"by") else {
         return None;
@@ -430,7 +525,12 @@ fn groups(nodes: &mut Nodes, text: &[u8], at: Place, left: usize) -> Option<Grou
     let Some(having) = condition(nodes, text, list.after, b"having", left) else {
         return None;
     };
-    Some(Grouping { are: true, by: list.node, having: having.node, after: having.after })
+    Some(Grouping {
+        are: true,
+        by: list.node,
+        having: having.node,
+        after: having.after,
+    })
 }
 
 // order by, or no keys.
@@ -439,7 +539,13 @@ fn orders(nodes: &mut Nodes, text: &[u8], at: Place, left: usize) -> Option<Part
     ensures { λ r. ⌜ ReadsKeys (now (text .entry)) (now (nodes .entry)) (now (nodes .exit)) (tokensAt (now (text .entry)) at) (reader.orders (reader.keys left) (tokensAt (now (text .entry)) at)) r ⌝ }
 {
     let Some(order) = take_key(text, at, b"order") else {
-        return Some(Part { node: 0, level: 0, aggregates: false, single: false, after: at });
+        return Some(Part {
+            node: 0,
+            level: 0,
+            aggregates: false,
+            single: false,
+            after: at,
+        });
     };
     let Some(by) = take_key(text, order, b"by") else {
         return None;
@@ -477,7 +583,23 @@ pub fn question(nodes: &mut Nodes, text: &[u8], at: Place, left: usize) -> Optio
     let Some(limit) = limits(nodes, text, keys.after) else {
         return None;
     };
-    let query = Question { distinct: distinct.down, grouped: group.are | out.aggregates | keys.aggregates, out: out.node, from: from.node, wanted: wanted.node, groups: group.by, having: group.having, keys: keys.node, limit: limit.node };
+    let query = Question {
+        distinct: distinct.down,
+        grouped: group.are | out.aggregates | keys.aggregates,
+        out: out.node,
+        from: from.node,
+        wanted: wanted.node,
+        groups: group.by,
+        having: group.having,
+        keys: keys.node,
+        limit: limit.node,
+    };
     let node = nodes.push(Node::Query(query));
-    Some(Part { node, level: 0, aggregates: false, single: out.single, after: limit.after })
+    Some(Part {
+        node,
+        level: 0,
+        aggregates: false,
+        single: out.single,
+        after: limit.after,
+    })
 }

@@ -23,7 +23,6 @@ pub use nodes::Span;
 pub use nodes::Statement;
 pub use parts::Refusal;
 pub use printer::print;
-
 use statements::statement;
 use tokens::Tok;
 use tokens::next;

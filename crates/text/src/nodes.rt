@@ -1,7 +1,6 @@
 // The nodes of a read statement.
 use std::alloc::AllocError;
 use std::alloc::Global;
-
 ghost use mathlib.Core.Path.{_≡_};
 ghost use Prim.Native.Nat.{_≤_};
 ghost use Rattle.std.specs.Of.Vec.{vec-len};

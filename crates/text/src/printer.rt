@@ -1,8 +1,6 @@
 // A read statement printed: keywords small, one blank between words, every compound expression in brackets.
 //
 // The number left falls with each call, so that it ends on any nodes; a read statement nests less deep than it has nodes.
-use std::alloc::AllocError;
-
 use crate::nodes::Fold;
 use crate::nodes::Node;
 use crate::nodes::Nodes;
@@ -11,6 +9,7 @@ use crate::nodes::Span;
 use crate::nodes::Statement;
 use crate::words::bytes_of;
 use crate::words::small_of;
+use std::alloc::AllocError;
 
 fn say(out: &mut Vec<u8>, bytes: &[u8]) -> Result<(), AllocError> {
     out.extend_from_slice(bytes)
@@ -68,18 +67,40 @@ fn column(out: &mut Vec<u8>, text: &[u8], source: Span, column: Span) -> Result<
 }
 
 // An expression between two texts.
-fn within(out: &mut Vec<u8>, nodes: &Nodes, text: &[u8], before: &[u8], i: u16, after: &[u8], left: usize) -> Result<(), AllocError> {
+fn within(
+    out: &mut Vec<u8>,
+    nodes: &Nodes,
+    text: &[u8],
+    before: &[u8],
+    i: u16,
+    after: &[u8],
+    left: usize,
+) -> Result<(), AllocError> {
     say(out, before)?;
     expr(out, nodes, text, i, left)?;
     say(out, after)
 }
 
-fn both(out: &mut Vec<u8>, nodes: &Nodes, text: &[u8], op: Op, a: u16, b: u16, left: usize) -> Result<(), AllocError> {
+fn both(
+    out: &mut Vec<u8>,
+    nodes: &Nodes,
+    text: &[u8],
+    op: Op,
+    a: u16,
+    b: u16,
+    left: usize,
+) -> Result<(), AllocError> {
     within(out, nodes, text, b"(", a, sign(op), left)?;
     within(out, nodes, text, b"", b, b")", left)
 }
 
-fn expr(out: &mut Vec<u8>, nodes: &Nodes, text: &[u8], i: u16, left: usize) -> Result<(), AllocError> {
+fn expr(
+    out: &mut Vec<u8>,
+    nodes: &Nodes,
+    text: &[u8],
+    i: u16,
+    left: usize,
+) -> Result<(), AllocError> {
     if left == 0 {
         return Ok(());
     }
@@ -101,14 +122,27 @@ fn expr(out: &mut Vec<u8>, nodes: &Nodes, text: &[u8], i: u16, left: usize) -> R
     }
 }
 
-fn query_within(out: &mut Vec<u8>, nodes: &Nodes, text: &[u8], before: &[u8], i: u16, left: usize) -> Result<(), AllocError> {
+fn query_within(
+    out: &mut Vec<u8>,
+    nodes: &Nodes,
+    text: &[u8],
+    before: &[u8],
+    i: u16,
+    left: usize,
+) -> Result<(), AllocError> {
     say(out, before)?;
     query(out, nodes, text, i, left)?;
     say(out, b")")
 }
 
 // The expressions of a list, with commas.
-fn exprs(out: &mut Vec<u8>, nodes: &Nodes, text: &[u8], i: u16, left: usize) -> Result<(), AllocError> {
+fn exprs(
+    out: &mut Vec<u8>,
+    nodes: &Nodes,
+    text: &[u8],
+    i: u16,
+    left: usize,
+) -> Result<(), AllocError> {
     if left == 0 {
         return Ok(());
     }
@@ -124,7 +158,13 @@ fn exprs(out: &mut Vec<u8>, nodes: &Nodes, text: &[u8], i: u16, left: usize) -> 
     Ok(())
 }
 
-fn keys(out: &mut Vec<u8>, nodes: &Nodes, text: &[u8], i: u16, left: usize) -> Result<(), AllocError> {
+fn keys(
+    out: &mut Vec<u8>,
+    nodes: &Nodes,
+    text: &[u8],
+    i: u16,
+    left: usize,
+) -> Result<(), AllocError> {
     if left == 0 {
         return Ok(());
     }
@@ -144,7 +184,14 @@ fn keys(out: &mut Vec<u8>, nodes: &Nodes, text: &[u8], i: u16, left: usize) -> R
 }
 
 // A clause with a condition, left out where it is 1.
-fn condition(out: &mut Vec<u8>, nodes: &Nodes, text: &[u8], word: &[u8], i: u16, left: usize) -> Result<(), AllocError> {
+fn condition(
+    out: &mut Vec<u8>,
+    nodes: &Nodes,
+    text: &[u8],
+    word: &[u8],
+    i: u16,
+    left: usize,
+) -> Result<(), AllocError> {
     let node = nodes.get(i);
     if let Node::Number(1) = node {
         return Ok(());
@@ -152,7 +199,13 @@ fn condition(out: &mut Vec<u8>, nodes: &Nodes, text: &[u8], word: &[u8], i: u16,
     within(out, nodes, text, word, i, b"", left)
 }
 
-fn query(out: &mut Vec<u8>, nodes: &Nodes, text: &[u8], i: u16, left: usize) -> Result<(), AllocError> {
+fn query(
+    out: &mut Vec<u8>,
+    nodes: &Nodes,
+    text: &[u8],
+    i: u16,
+    left: usize,
+) -> Result<(), AllocError> {
     if left == 0 {
         return Ok(());
     }
@@ -212,7 +265,13 @@ fn same_name(text: &[u8], a: Span, b: Span) -> bool {
     true
 }
 
-fn sources(out: &mut Vec<u8>, nodes: &Nodes, text: &[u8], i: u16, left: usize) -> Result<(), AllocError> {
+fn sources(
+    out: &mut Vec<u8>,
+    nodes: &Nodes,
+    text: &[u8],
+    i: u16,
+    left: usize,
+) -> Result<(), AllocError> {
     if left == 0 {
         return Ok(());
     }
@@ -232,7 +291,13 @@ fn sources(out: &mut Vec<u8>, nodes: &Nodes, text: &[u8], i: u16, left: usize) -
     Ok(())
 }
 
-fn cols(out: &mut Vec<u8>, nodes: &Nodes, text: &[u8], i: u16, left: usize) -> Result<(), AllocError> {
+fn cols(
+    out: &mut Vec<u8>,
+    nodes: &Nodes,
+    text: &[u8],
+    i: u16,
+    left: usize,
+) -> Result<(), AllocError> {
     if left == 0 {
         return Ok(());
     }
@@ -252,7 +317,13 @@ fn cols(out: &mut Vec<u8>, nodes: &Nodes, text: &[u8], i: u16, left: usize) -> R
     Ok(())
 }
 
-fn names(out: &mut Vec<u8>, nodes: &Nodes, text: &[u8], i: u16, left: usize) -> Result<(), AllocError> {
+fn names(
+    out: &mut Vec<u8>,
+    nodes: &Nodes,
+    text: &[u8],
+    i: u16,
+    left: usize,
+) -> Result<(), AllocError> {
     if left == 0 {
         return Ok(());
     }
@@ -268,7 +339,13 @@ fn names(out: &mut Vec<u8>, nodes: &Nodes, text: &[u8], i: u16, left: usize) -> 
     Ok(())
 }
 
-fn rows(out: &mut Vec<u8>, nodes: &Nodes, text: &[u8], i: u16, left: usize) -> Result<(), AllocError> {
+fn rows(
+    out: &mut Vec<u8>,
+    nodes: &Nodes,
+    text: &[u8],
+    i: u16,
+    left: usize,
+) -> Result<(), AllocError> {
     if left == 0 {
         return Ok(());
     }
@@ -286,7 +363,13 @@ fn rows(out: &mut Vec<u8>, nodes: &Nodes, text: &[u8], i: u16, left: usize) -> R
     Ok(())
 }
 
-fn sets(out: &mut Vec<u8>, nodes: &Nodes, text: &[u8], i: u16, left: usize) -> Result<(), AllocError> {
+fn sets(
+    out: &mut Vec<u8>,
+    nodes: &Nodes,
+    text: &[u8],
+    i: u16,
+    left: usize,
+) -> Result<(), AllocError> {
     if left == 0 {
         return Ok(());
     }
@@ -309,15 +392,39 @@ fn named(out: &mut Vec<u8>, text: &[u8], word: &[u8], of: Span) -> Result<(), Al
     name(out, text, of)
 }
 
-fn index(out: &mut Vec<u8>, nodes: &Nodes, text: &[u8], unique: bool, of: Span, table: Span, list: u16) -> Result<(), AllocError> {
-    named(out, text, if unique { b"create unique index " } else { b"create index " }, of)?;
+fn index(
+    out: &mut Vec<u8>,
+    nodes: &Nodes,
+    text: &[u8],
+    unique: bool,
+    of: Span,
+    table: Span,
+    list: u16,
+) -> Result<(), AllocError> {
+    named(
+        out,
+        text,
+        if unique {
+            b"create unique index "
+        } else {
+            b"create index "
+        },
+        of,
+    )?;
     named(out, text, b" on ", table)?;
     say(out, b" (")?;
     names(out, nodes, text, list, 8200)?;
     say(out, b")")
 }
 
-fn update(out: &mut Vec<u8>, nodes: &Nodes, text: &[u8], table: Span, list: u16, wanted: u16) -> Result<(), AllocError> {
+fn update(
+    out: &mut Vec<u8>,
+    nodes: &Nodes,
+    text: &[u8],
+    table: Span,
+    list: u16,
+    wanted: u16,
+) -> Result<(), AllocError> {
     named(out, text, b"update ", table)?;
     say(out, b" set ")?;
     sets(out, nodes, text, list, 8200)?;
@@ -325,7 +432,12 @@ fn update(out: &mut Vec<u8>, nodes: &Nodes, text: &[u8], table: Span, list: u16,
 }
 
 // Appends a read statement, of these nodes and bytes, as text.
-pub fn print(out: &mut Vec<u8>, nodes: &Nodes, text: &[u8], statement: Statement) -> Result<(), AllocError> {
+pub fn print(
+    out: &mut Vec<u8>,
+    nodes: &Nodes,
+    text: &[u8],
+    statement: Statement,
+) -> Result<(), AllocError> {
     match statement {
         Statement::CreateTable(table, list) => {
             named(out, text, b"create table ", table)?;
@@ -334,7 +446,15 @@ pub fn print(out: &mut Vec<u8>, nodes: &Nodes, text: &[u8], statement: Statement
             say(out, b")")
         }
         Statement::DropTable(table) => named(out, text, b"drop table ", table),
-        Statement::CreateIndex(unique, of, table, list) => index(out, nodes, text, unique, of, table, list),
+        Statement::CreateIndex(unique, of, table, list) => index(
+            out,
+            nodes,
+            text,
+            unique,
+            of,
+            table,
+            list,
+        ),
         Statement::DropIndex(of) => named(out, text, b"drop index ", of),
         Statement::Insert(table, list) => {
             named(out, text, b"insert into ", table)?;

@@ -8,7 +8,6 @@ ghost use Rattle.grammar.specs.Reader as reader;
 ghost use Rattle.grammar.specs.Reader.{gets, andThen};
 ghost use Rattle.text.specs.Cut.{tokensAt, Short, name as nameOf};
 ghost use Rattle.text.specs.Found.{Ready, ReadsCols, ReadsNames, ReadsRows, ReadsSets, Must, Kinds, Says, Names, marks};
-
 use crate::exprs::condition;
 use crate::exprs::expr;
 use crate::exprs::exprs;
@@ -30,7 +29,10 @@ fn must(text: &[u8], at: Place) -> Option<Way>
     ensures { λ r. ⌜ Must (now (text .entry)) (tokensAt (now (text .entry)) at) r ⌝ }
 {
     let Some(not) = take_key(text, at, b"not") else {
-        return Some(Way { down: false, after: at });
+        return Some(Way {
+            down: false,
+            after: at,
+        });
     };
     let Some(after) = take_key(text, not, b"null") else {
         return None;
@@ -71,13 +73,25 @@ fn cols(nodes: &mut Nodes, text: &[u8], at: Place, left: usize) -> Option<Part>
     };
     let Some(comma) = take_sign(text, must.after, 44) else {
         let node = nodes.push(Node::Col(name.span, kind.down, must.down, 0));
-        return Some(Part { node, level: 0, aggregates: false, single: false, after: must.after });
+        return Some(Part {
+            node,
+            level: 0,
+            aggregates: false,
+            single: false,
+            after: must.after,
+        });
     };
     let Some(rest) = cols(nodes, text, comma, left - 1) else {
         return None;
     };
     let node = nodes.push(Node::Col(name.span, kind.down, must.down, rest.node));
-    Some(Part { node, level: 0, aggregates: false, single: false, after: rest.after })
+    Some(Part {
+        node,
+        level: 0,
+        aggregates: false,
+        single: false,
+        after: rest.after,
+    })
 }
 
 // A list of names.
@@ -93,13 +107,25 @@ fn names(nodes: &mut Nodes, text: &[u8], at: Place, left: usize) -> Option<Part>
     };
     let Some(comma) = take_sign(text, name.after, 44) else {
         let node = nodes.push(Node::Name(name.span, 0));
-        return Some(Part { node, level: 0, aggregates: false, single: false, after: name.after });
+        return Some(Part {
+            node,
+            level: 0,
+            aggregates: false,
+            single: false,
+            after: name.after,
+        });
     };
     let Some(rest) = names(nodes, text, comma, left - 1) else {
         return None;
     };
     let node = nodes.push(Node::Name(name.span, rest.node));
-    Some(Part { node, level: 0, aggregates: false, single: false, after: rest.after })
+    Some(Part {
+        node,
+        level: 0,
+        aggregates: false,
+        single: false,
+        after: rest.after,
+    })
 }
 
 // The rows to insert: lists in brackets. Each may take as many turns as the statement.
@@ -121,13 +147,25 @@ fn rows(nodes: &mut Nodes, text: &[u8], at: Place, turns: usize, left: usize) ->
     };
     let Some(comma) = take_sign(text, close, 44) else {
         let node = nodes.push(Node::Row(row.node, 0));
-        return Some(Part { node, level: 0, aggregates: false, single: false, after: close });
+        return Some(Part {
+            node,
+            level: 0,
+            aggregates: false,
+            single: false,
+            after: close,
+        });
     };
     let Some(rest) = rows(nodes, text, comma, turns, left - 1) else {
         return None;
     };
     let node = nodes.push(Node::Row(row.node, rest.node));
-    Some(Part { node, level: 0, aggregates: false, single: false, after: rest.after })
+    Some(Part {
+        node,
+        level: 0,
+        aggregates: false,
+        single: false,
+        after: rest.after,
+    })
 }
 
 // What is set.
@@ -149,13 +187,25 @@ fn sets(nodes: &mut Nodes, text: &[u8], at: Place, turns: usize, left: usize) ->
     };
     let Some(comma) = take_sign(text, to.after, 44) else {
         let node = nodes.push(Node::Set(name.span, to.node, 0));
-        return Some(Part { node, level: 0, aggregates: false, single: false, after: to.after });
+        return Some(Part {
+            node,
+            level: 0,
+            aggregates: false,
+            single: false,
+            after: to.after,
+        });
     };
     let Some(rest) = sets(nodes, text, comma, turns, left - 1) else {
         return None;
     };
     let node = nodes.push(Node::Set(name.span, to.node, rest.node));
-    Some(Part { node, level: 0, aggregates: false, single: false, after: rest.after })
+    Some(Part {
+        node,
+        level: 0,
+        aggregates: false,
+        single: false,
+        after: rest.after,
+    })
 }
 
 // After `create table`.
@@ -175,11 +225,20 @@ fn create_table(nodes: &mut Nodes, text: &[u8], at: Place, left: usize) -> Optio
     let Some(after) = take_sign(text, list.after, 41) else {
         return None;
     };
-    Some(Said { it: Statement::CreateTable(name.span, list.node), after })
+    Some(Said {
+        it: Statement::CreateTable(name.span, list.node),
+        after,
+    })
 }
 
 // After `create index` or `create unique index`.
-fn create_index(nodes: &mut Nodes, text: &[u8], at: Place, unique: bool, left: usize) -> Option<Said>
+fn create_index(
+    nodes: &mut Nodes,
+    text: &[u8],
+    at: Place,
+    unique: bool,
+    left: usize,
+) -> Option<Said>
     requires { ⌜ Ready (now text) (now nodes) at ⌝ }
     ensures { λ r. ⌜ Says (now (text .entry)) (now (nodes .exit)) (reader.createIndex left unique (tokensAt (now (text .entry)) at)) r ⌝ }
 {
@@ -201,7 +260,10 @@ fn create_index(nodes: &mut Nodes, text: &[u8], at: Place, unique: bool, left: u
     let Some(after) = take_sign(text, list.after, 41) else {
         return None;
     };
-    Some(Said { it: Statement::CreateIndex(unique, name.span, table.span, list.node), after })
+    Some(Said {
+        it: Statement::CreateIndex(unique, name.span, table.span, list.node),
+        after,
+    })
 }
 
 fn create(nodes: &mut Nodes, text: &[u8], at: Place, left: usize) -> Option<Said>
@@ -231,7 +293,10 @@ fn drop_one(text: &[u8], at: Place) -> Option<Said>
         let Some(name) = take_name(text, table) else {
             return None;
         };
-        return Some(Said { it: Statement::DropTable(name.span), after: name.after });
+        return Some(Said {
+            it: Statement::DropTable(name.span),
+            after: name.after,
+        });
     }
     let Some(index) = take_key(text, at, b"index") else {
         return None;
@@ -239,7 +304,10 @@ fn drop_one(text: &[u8], at: Place) -> Option<Said>
     let Some(name) = take_name(text, index) else {
         return None;
     };
-    Some(Said { it: Statement::DropIndex(name.span), after: name.after })
+    Some(Said {
+        it: Statement::DropIndex(name.span),
+        after: name.after,
+    })
 }
 
 // After `rollback`.
@@ -248,12 +316,18 @@ fn rollback(text: &[u8], at: Place) -> Option<Said>
     ensures { λ r. ⌜ Names (now (text .entry)) (reader.rollback (tokensAt (now (text .entry)) at)) r ⌝ }
 {
     let Some(to) = take_key(text, at, b"to") else {
-        return Some(Said { it: Statement::Rollback, after: at });
+        return Some(Said {
+            it: Statement::Rollback,
+            after: at,
+        });
     };
     let Some(name) = take_name(text, to) else {
         return None;
     };
-    Some(Said { it: Statement::RollbackTo(name.span), after: name.after })
+    Some(Said {
+        it: Statement::RollbackTo(name.span),
+        after: name.after,
+    })
 }
 
 fn insert(nodes: &mut Nodes, text: &[u8], at: Place, left: usize) -> Option<Said>
@@ -270,12 +344,18 @@ fn insert(nodes: &mut Nodes, text: &[u8], at: Place, left: usize) -> Option<Said
         let Some(list) = rows(nodes, text, values, left, left) else {
             return None;
         };
-        return Some(Said { it: Statement::Insert(name.span, list.node), after: list.after });
+        return Some(Said {
+            it: Statement::Insert(name.span, list.node),
+            after: list.after,
+        });
     }
     let Some(query) = question(nodes, text, name.after, left) else {
         return None;
     };
-    Some(Said { it: Statement::InsertFrom(name.span, query.node), after: query.after })
+    Some(Said {
+        it: Statement::InsertFrom(name.span, query.node),
+        after: query.after,
+    })
 }
 
 fn update(nodes: &mut Nodes, text: &[u8], at: Place, left: usize) -> Option<Said>
@@ -294,7 +374,10 @@ fn update(nodes: &mut Nodes, text: &[u8], at: Place, left: usize) -> Option<Said
     let Some(wanted) = condition(nodes, text, list.after, b"where", left) else {
         return None;
     };
-    Some(Said { it: Statement::Update(name.span, list.node, wanted.node), after: wanted.after })
+    Some(Said {
+        it: Statement::Update(name.span, list.node, wanted.node),
+        after: wanted.after,
+    })
 }
 
 fn delete(nodes: &mut Nodes, text: &[u8], at: Place, left: usize) -> Option<Said>
@@ -310,7 +393,10 @@ fn delete(nodes: &mut Nodes, text: &[u8], at: Place, left: usize) -> Option<Said
     let Some(wanted) = condition(nodes, text, name.after, b"where", left) else {
         return None;
     };
-    Some(Said { it: Statement::Delete(name.span, wanted.node), after: wanted.after })
+    Some(Said {
+        it: Statement::Delete(name.span, wanted.node),
+        after: wanted.after,
+    })
 }
 
 // A savepoint set or released.
@@ -322,9 +408,15 @@ fn mark(text: &[u8], at: Place, keep: bool) -> Option<Said>
         return None;
     };
     if keep {
-        return Some(Said { it: Statement::Savepoint(name.span), after: name.after });
+        return Some(Said {
+            it: Statement::Savepoint(name.span),
+            after: name.after,
+        });
     }
-    Some(Said { it: Statement::Release(name.span), after: name.after })
+    Some(Said {
+        it: Statement::Release(name.span),
+        after: name.after,
+    })
 }
 
 // Any statement, by its first word.
@@ -348,10 +440,16 @@ pub fn statement(nodes: &mut Nodes, text: &[u8], at: Place, left: usize) -> Opti
         return delete(nodes, text, after, left);
     }
     if let Some(after) = take_key(text, at, b"begin") {
-        return Some(Said { it: Statement::Begin, after });
+        return Some(Said {
+            it: Statement::Begin,
+            after,
+        });
     }
     if let Some(after) = take_key(text, at, b"commit") {
-        return Some(Said { it: Statement::Commit, after });
+        return Some(Said {
+            it: Statement::Commit,
+            after,
+        });
     }
     if let Some(after) = take_key(text, at, b"rollback") {
         return rollback(text, after);
@@ -365,5 +463,8 @@ pub fn statement(nodes: &mut Nodes, text: &[u8], at: Place, left: usize) -> Opti
     let Some(query) = question(nodes, text, at, left) else {
         return None;
     };
-    Some(Said { it: Statement::Select(query.node), after: query.after })
+    Some(Said {
+        it: Statement::Select(query.node),
+        after: query.after,
+    })
 }

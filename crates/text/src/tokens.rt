@@ -7,7 +7,6 @@ ghost use lib.ListN.{length, getD, take, drop};
 ghost use Rattle.std.specs.Options.{Cases as BySome};
 ghost use Rattle.meaning.specs.Text.{tokens, Between, InQuotes, Wrong as Faulty, Quoted as Quote, letter, digit, signs, spaces, isIn};
 ghost use Rattle.text.specs.Cut.{Run, inWord, space, tokensAt, undoubled, Short};
-
 use crate::nodes::Span;
 
 // A token: a part of the bytes, but for the signs. Signs of two bytes have numbers from 256: <= <> || >=.
@@ -112,7 +111,10 @@ fn span(from: usize, len: usize) -> Span
     requires { ⌜ from ≤ 4096 ⌝ ∗ ⌜ len ≤ 4096 ⌝ }
     ensures { λ r. ⌜ r .from ≡ from ⌝ ∗ ⌜ r .len ≡ len ⌝ }
 {
-    Span { from: from as u16, len: len as u16 }
+    Span {
+        from: from as u16,
+        len: len as u16,
+    }
 }
 
 fn word_at(text: &[u8], at: usize) -> Place
@@ -120,7 +122,10 @@ fn word_at(text: &[u8], at: usize) -> Place
     ensures { λ r. ⌜ tokensAt (now (text .entry)) r ≡ tokens Between (drop at (now (text .entry))) ⌝ }
 {
     let n = word_len(&text[at..]);
-    Place { tok: Tok::Word(span(at, n)), rest: at + n }
+    Place {
+        tok: Tok::Word(span(at, n)),
+        rest: at + n,
+    }
 }
 
 fn number_at(text: &[u8], at: usize) -> Place
@@ -129,9 +134,15 @@ fn number_at(text: &[u8], at: usize) -> Place
 {
     let n = digits_len(&text[at..]);
     if is_letter(byte_at(text, at + n)) {
-        return Place { tok: Tok::Wrong, rest: at + n };
+        return Place {
+            tok: Tok::Wrong,
+            rest: at + n,
+        };
     }
-    Place { tok: Tok::Number(span(at, n)), rest: at + n }
+    Place {
+        tok: Tok::Number(span(at, n)),
+        rest: at + n,
+    }
 }
 
 fn quoted_at(text: &[u8], at: usize) -> Place
@@ -139,9 +150,15 @@ fn quoted_at(text: &[u8], at: usize) -> Place
     ensures { λ r. ⌜ tokensAt (now (text .entry)) r ≡ tokens Between (drop at (now (text .entry))) ⌝ }
 {
     let Some(n) = quoted_len(&text[at + 1..]) else {
-        return Place { tok: Tok::Wrong, rest: text.len() };
+        return Place {
+            tok: Tok::Wrong,
+            rest: text.len(),
+        };
     };
-    Place { tok: Tok::Quoted(span(at + 1, n)), rest: at + n + 2 }
+    Place {
+        tok: Tok::Quoted(span(at + 1, n)),
+        rest: at + n + 2,
+    }
 }
 
 // < <= <>
@@ -151,12 +168,21 @@ fn less_at(text: &[u8], at: usize) -> Place
 {
     let next = byte_at(text, at + 1);
     if next == b'=' {
-        return Place { tok: Tok::Sign(256), rest: at + 2 };
+        return Place {
+            tok: Tok::Sign(256),
+            rest: at + 2,
+        };
     }
     if next == b'>' {
-        return Place { tok: Tok::Sign(257), rest: at + 2 };
+        return Place {
+            tok: Tok::Sign(257),
+            rest: at + 2,
+        };
     }
-    Place { tok: Tok::Sign(60), rest: at + 1 }
+    Place {
+        tok: Tok::Sign(60),
+        rest: at + 1,
+    }
 }
 
 // > >=
@@ -165,9 +191,15 @@ fn more_at(text: &[u8], at: usize) -> Place
     ensures { λ r. ⌜ tokensAt (now (text .entry)) r ≡ tokens Between (drop at (now (text .entry))) ⌝ }
 {
     if byte_at(text, at + 1) == b'=' {
-        return Place { tok: Tok::Sign(259), rest: at + 2 };
+        return Place {
+            tok: Tok::Sign(259),
+            rest: at + 2,
+        };
     }
-    Place { tok: Tok::Sign(62), rest: at + 1 }
+    Place {
+        tok: Tok::Sign(62),
+        rest: at + 1,
+    }
 }
 
 // || and a lone bar, which is no token
@@ -176,9 +208,15 @@ fn bar_at(text: &[u8], at: usize) -> Place
     ensures { λ r. ⌜ tokensAt (now (text .entry)) r ≡ tokens Between (drop at (now (text .entry))) ⌝ }
 {
     if byte_at(text, at + 1) == b'|' {
-        return Place { tok: Tok::Sign(258), rest: at + 2 };
+        return Place {
+            tok: Tok::Sign(258),
+            rest: at + 2,
+        };
     }
-    Place { tok: Tok::Wrong, rest: at + 1 }
+    Place {
+        tok: Tok::Wrong,
+        rest: at + 1,
+    }
 }
 
 // The token at a place where no space stands.
@@ -194,7 +232,10 @@ fn cut(text: &[u8], at: usize) -> Place
         return number_at(text, at);
     }
     if is_sign(b) {
-        return Place { tok: Tok::Sign(b as u16), rest: at + 1 };
+        return Place {
+            tok: Tok::Sign(b as u16),
+            rest: at + 1,
+        };
     }
     if b == b'\'' {
         return quoted_at(text, at);
@@ -208,7 +249,10 @@ fn cut(text: &[u8], at: usize) -> Place
     if b == b'|' {
         return bar_at(text, at);
     }
-    Place { tok: Tok::Wrong, rest: at + 1 }
+    Place {
+        tok: Tok::Wrong,
+        rest: at + 1,
+    }
 }
 
 // The first token from a place on.
@@ -217,11 +261,17 @@ pub fn next(text: &[u8], from: usize) -> Place
     ensures { λ r. ⌜ tokensAt (now (text .entry)) r ≡ tokens Between (drop from (now (text .entry))) ⌝ }
 {
     if from >= text.len() {
-        return Place { tok: Tok::End, rest: from };
+        return Place {
+            tok: Tok::End,
+            rest: from,
+        };
     }
     let n = spaces_len(&text[from..]);
     if n >= text.len() - from {
-        return Place { tok: Tok::End, rest: from };
+        return Place {
+            tok: Tok::End,
+            rest: from,
+        };
     }
     cut(text, from + n)
 }

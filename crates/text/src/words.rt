@@ -9,7 +9,6 @@ ghost use Rattle.meaning.specs.Meaning.{sameName, some};
 ghost use Rattle.grammar.specs.Reader.{isSign, isWord, headIs};
 ghost use Rattle.text.specs.Cut.{Short, tokensAt, part as partOf, name as nameOf};
 ghost use Rattle.text.specs.Found.{Taken, NameTaken, NumberTaken, Valued, Linked, SignLinked, levelOf, leftOf, queryWords, expressionWords, changeWords, otherWords};
-
 use crate::nodes::Span;
 use crate::tokens::Place;
 use crate::tokens::Tok;
@@ -125,7 +124,14 @@ fn is_query_word(w: &[u8]) -> bool
     let is_desc = is_key(w, b"desc");
     let is_limit = is_key(w, b"limit");
     let is_offset = is_key(w, b"offset");
-    is_select | (is_distinct | (is_from | (is_where | (is_group | (is_by | (is_having | (is_order | (is_asc | (is_desc | (is_limit | (is_offset)))))))))))
+    is_select
+        | (is_distinct
+            | (is_from
+                | (is_where
+                    | (is_group
+                        | (is_by
+                            | (is_having
+                                | (is_order | (is_asc | (is_desc | (is_limit | (is_offset)))))))))))
 }
 
 fn is_expression_word(w: &[u8]) -> bool
@@ -141,7 +147,10 @@ fn is_expression_word(w: &[u8]) -> bool
     let is_sum = is_key(w, b"sum");
     let is_min = is_key(w, b"min");
     let is_max = is_key(w, b"max");
-    is_and | (is_or | (is_not | (is_is | (is_null | (is_exists | (is_count | (is_sum | (is_min | (is_max)))))))))
+    is_and
+        | (is_or
+            | (is_not
+                | (is_is | (is_null | (is_exists | (is_count | (is_sum | (is_min | (is_max)))))))))
 }
 
 fn is_change_word(w: &[u8]) -> bool
@@ -159,7 +168,15 @@ fn is_change_word(w: &[u8]) -> bool
     let is_update = is_key(w, b"update");
     let is_set = is_key(w, b"set");
     let is_delete = is_key(w, b"delete");
-    is_create | (is_table | (is_unique | (is_index | (is_on | (is_drop | (is_insert | (is_into | (is_values | (is_update | (is_set | (is_delete)))))))))))
+    is_create
+        | (is_table
+            | (is_unique
+                | (is_index
+                    | (is_on
+                        | (is_drop
+                            | (is_insert
+                                | (is_into
+                                    | (is_values | (is_update | (is_set | (is_delete)))))))))))
 }
 
 fn is_other_word(w: &[u8]) -> bool
@@ -174,7 +191,10 @@ fn is_other_word(w: &[u8]) -> bool
     let is_int = is_key(w, b"int");
     let is_text = is_key(w, b"text");
     let is_as = is_key(w, b"as");
-    is_begin | (is_commit | (is_rollback | (is_to | (is_savepoint | (is_release | (is_int | (is_text | (is_as))))))))
+    is_begin
+        | (is_commit
+            | (is_rollback
+                | (is_to | (is_savepoint | (is_release | (is_int | (is_text | (is_as))))))))
 }
 
 fn is_keyword(w: &[u8]) -> bool
@@ -194,7 +214,11 @@ pub fn take_sign(text: &[u8], at: Place, b: u16) -> Option<Place>
     let Tok::Sign(c) = at.tok else {
         return None;
     };
-    if c == b { Some(next(text, at.rest)) } else { None }
+    if c == b {
+        Some(next(text, at.rest))
+    } else {
+        None
+    }
 }
 
 pub fn take_key(text: &[u8], at: Place, key: &[u8]) -> Option<Place>
@@ -204,7 +228,11 @@ pub fn take_key(text: &[u8], at: Place, key: &[u8]) -> Option<Place>
     let Tok::Word(w) = at.tok else {
         return None;
     };
-    if is_key(bytes_of(text, w), key) { Some(next(text, at.rest)) } else { None }
+    if is_key(bytes_of(text, w), key) {
+        Some(next(text, at.rest))
+    } else {
+        None
+    }
 }
 
 // Whether a keyword stands at a place.
@@ -227,7 +255,10 @@ pub fn take_name(text: &[u8], at: Place) -> Option<Named>
     if is_keyword(bytes_of(text, span)) {
         return None;
     }
-    Some(Named { span, after: next(text, at.rest) })
+    Some(Named {
+        span,
+        after: next(text, at.rest),
+    })
 }
 
 fn value(digits: &[u8]) -> Option<u64>
@@ -240,7 +271,11 @@ fn value(digits: &[u8]) -> Option<u64>
         }
         v = 10 * v + b.saturating_sub(48) as u64;
     }
-    if v < 9223372036854775808 { Some(v) } else { None }
+    if v < 9223372036854775808 {
+        Some(v)
+    } else {
+        None
+    }
 }
 
 pub fn take_number(text: &[u8], at: Place) -> Option<Counted>
@@ -253,7 +288,10 @@ pub fn take_number(text: &[u8], at: Place) -> Option<Counted>
     let Some(value) = value(bytes_of(text, span)) else {
         return None;
     };
-    Some(Counted { value, after: next(text, at.rest) })
+    Some(Counted {
+        value,
+        after: next(text, at.rest),
+    })
 }
 
 fn infix_of(sign: u16) -> Option<Infix>
@@ -283,13 +321,22 @@ pub fn take_infix(text: &[u8], at: Place) -> Option<Link>
         let Some(op) = infix_of(sign) else {
             return None;
         };
-        return Some(Link { op, after: next(text, at.rest) });
+        return Some(Link {
+            op,
+            after: next(text, at.rest),
+        });
     }
     if let Some(after) = take_key(text, at, b"or") {
-        return Some(Link { op: Infix::Or, after });
+        return Some(Link {
+            op: Infix::Or,
+            after,
+        });
     }
     if let Some(after) = take_key(text, at, b"and") {
-        return Some(Link { op: Infix::And, after });
+        return Some(Link {
+            op: Infix::And,
+            after,
+        });
     }
     None
 }

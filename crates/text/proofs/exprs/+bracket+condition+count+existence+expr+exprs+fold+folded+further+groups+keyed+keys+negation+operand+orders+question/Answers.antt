@@ -106,8 +106,12 @@ expr-returns-in-Fails t c = let b = c .args .text .now in let T = c .args .nodes
 
 pub expr-loop-turns-again : need.expr-loop-turns-again
 expr-loop-turns-again t c = let b = c .args .text .now in let T = c .args .nodes .now in let v = c .loop-turns .inv in let n = c .in-Goes .ensures tt in
-    record { less = omega (arith, v .less); grown = grown-on (filled (c .operand .last .nodes)) (filled (c .loop-turns .nodes)) (filled (c .further .last .nodes)) (v .grown) (n .grown); few = omega (arith, v .few, n .few);
-      goes = λ e s. let g = v .goes e s in let h = n .goes (g .0) (g .2) in (h .0, g .1 ∙ ap (λ n. reader.more n (c .args .level) (g .0) (tokensAt b (c .loop-turns .a .after))) (sym (turns-left (c .loop-turns .turns) (c .loop-turns-test .taken))) ∙ h .1, h .2) }
+    record {
+      less = omega (arith, v .less);
+      grown = grown-on (filled (c .operand .last .nodes)) (filled (c .loop-turns .nodes)) (filled (c .further .last .nodes)) (v .grown) (n .grown);
+      few = omega (arith, v .few, n .few);
+      goes = λ e s. let g = v .goes e s in let h = n .goes (g .0) (g .2) in (h .0, g .1 ∙ ap (λ n. reader.more n (c .args .level) (g .0) (tokensAt b (c .loop-turns .a .after))) (sym (turns-left (c .loop-turns .turns) (c .loop-turns-test .taken))) ∙ h .1, h .2);
+    }
 
 pub expr-returns : need.expr-returns
 expr-returns t c = let b = c .args .text .now in let T = c .args .nodes .now in let p = c .in-Some .ensures tt in let v = c .loop-turns .inv in let g = v .goes (p .it) (record { stands = p .stands; counts = p .says .0; level = p .says .1; within = p .within }) in let d = g .0 in expr-step (c .args .left) (c .args .level) (tokensAt (c .args .text .now) (c .args .at)) (c .if-left-eq0 .left) ∙ then-is _ (p .is) (g .1 ∙ more-none _ _ _ _ (omega arith))
@@ -121,8 +125,15 @@ exprs-returns-in-rest t c = exprs-step (c .args .left) (tokensAt (c .args .text 
 pub exprs-returns-in-rest-take-sign : need.exprs-returns-in-rest-take-sign
 unfolding toExprs aggregatesAny
 exprs-returns-in-rest-take-sign t c = let b = c .args .text .now in let T = c .args .nodes .now in let e = c .in-Some .ensures tt in let n = pushed (c .expr .last .nodes) (c .push-node .last .self) _ _ (c .push-node .ensures) in
-    record { it = e .it ∷ []; is = exprs-step (c .args .left) (tokensAt (c .args .text .now) (c .args .at)) (c .if-left-eq0 .left) ∙ listed-last (reader.expr (c .args .left - 1) 0) (reader.exprs (c .args .left - 1)) _ _ _ (e .is) (c .in-rest-take-sign .ensures tt); stands = stand-item b (filled (c .expr .last .nodes)) (filled (c .push-node .last .self)) (e .it) [] _ 0 _ n (e .stands) (e .within) refl (omega (arith, e .within));
-      says = (e .says ∙ sym (or-false _), refl); within = n .within; grown = grown-on (filled T) (filled (c .expr .last .nodes)) (filled (c .push-node .last .self)) (e .grown) (n .grown); few = omega (arith, e .few, n .more) }
+    record {
+      it = e .it ∷ [];
+      is = exprs-step (c .args .left) (tokensAt (c .args .text .now) (c .args .at)) (c .if-left-eq0 .left) ∙ listed-last (reader.expr (c .args .left - 1) 0) (reader.exprs (c .args .left - 1)) _ _ _ (e .is) (c .in-rest-take-sign .ensures tt);
+      stands = stand-item b (filled (c .expr .last .nodes)) (filled (c .push-node .last .self)) (e .it) [] _ 0 _ n (e .stands) (e .within) refl (omega (arith, e .within));
+      says = (e .says ∙ sym (or-false _), refl);
+      within = n .within;
+      grown = grown-on (filled T) (filled (c .expr .last .nodes)) (filled (c .push-node .last .self)) (e .grown) (n .grown);
+      few = omega (arith, e .few, n .more);
+    }
 
 pub exprs-returns-in-rest-exprs : need.exprs-returns-in-rest-exprs
 exprs-returns-in-rest-exprs t c = let e = c .in-Some .ensures tt in exprs-step (c .args .left) (tokensAt (c .args .text .now) (c .args .at)) (c .if-left-eq0 .left) ∙ listed-fails (reader.expr (c .args .left - 1) 0) (reader.exprs (c .args .left - 1)) _ _ _ _ (e .is) (c .in-Some-take-sign .ensures tt .0) (c .in-Some-take-sign .ensures tt .1) (c .in-rest-exprs .ensures tt)
@@ -131,9 +142,15 @@ pub exprs-returns : need.exprs-returns
 unfolding toExprs aggregatesAny
 exprs-returns t c = let b = c .args .text .now in let T = c .args .nodes .now in let e = c .in-Some .ensures tt in let r = c .in-Some-exprs .ensures tt in let n = pushed (c .exprs .last .nodes) (c .push-node-2 .last .self) _ _ (c .push-node-2 .ensures) in
     let l = taken-length (isSign 44) (tokensAt (c .args .text .now) (c .in-Some .e .after)) (tokensAt (c .args .text .now) (c .in-Some-take-sign .comma)) (c .in-Some-take-sign .ensures tt .0) (c .in-Some-take-sign .ensures tt .1) in let F = filled (c .expr .last .nodes) in let G = filled (c .exprs .last .nodes) in let K = filled (c .push-node-2 .last .self) in
-    record { it = e .it ∷ r .it; is = exprs-step (c .args .left) (tokensAt (c .args .text .now) (c .args .at)) (c .if-left-eq0 .left) ∙ listed-on (reader.expr (c .args .left - 1) 0) (reader.exprs (c .args .left - 1)) _ _ _ _ _ _ (e .is) (c .in-Some-take-sign .ensures tt .0) (c .in-Some-take-sign .ensures tt .1) (r .is);
+    record {
+      it = e .it ∷ r .it;
+      is = exprs-step (c .args .left) (tokensAt (c .args .text .now) (c .args .at)) (c .if-left-eq0 .left) ∙ listed-on (reader.expr (c .args .left - 1) 0) (reader.exprs (c .args .left - 1)) _ _ _ _ _ _ (e .is) (c .in-Some-take-sign .ensures tt .0) (c .in-Some-take-sign .ensures tt .1) (r .is);
       stands = stand-item b G K (e .it) (r .it) _ _ _ n (kept b (e .it) F G (r .grown) _ (e .stands)) (omega (arith, e .within, grown-length F G (r .grown))) (r .stands) (r .within);
-      says = ((λ i. e .says i || r .says .0 i), sym (single-more (e .it) (r .it) (exprs-some (c .args .left - 1) _ (r .it) _ (r .is)))); within = n .within; grown = grown-on (filled T) F K (e .grown) (grown-on F G K (r .grown) (n .grown)); few = omega (arith, e .few, r .few, n .more, l) }
+      says = ((λ i. e .says i || r .says .0 i), sym (single-more (e .it) (r .it) (exprs-some (c .args .left - 1) _ (r .it) _ (r .is))));
+      within = n .within;
+      grown = grown-on (filled T) F K (e .grown) (grown-on F G K (r .grown) (n .grown));
+      few = omega (arith, e .few, r .few, n .more, l);
+    }
 
 pub fold-returns-in-rest : need.fold-returns-in-rest
 fold-returns-in-rest t c = choose-no (isSign 40) _ _ _ (c .in-rest .ensures tt)
@@ -173,9 +190,15 @@ further-returns-in-rest-expr t c = λ e l. more-joins (c .args .left) (c .args .
 pub further-returns : need.further-returns
 further-returns t c = let b = c .args .text .now in let T = c .args .nodes .now in let r = c .in-Some-expr .ensures tt in let j = c .join-node .ensures in let F = filled T in let G = filled (c .expr .last .nodes) in let K = filled (c .join-node .last .nodes) in
     let q = joint-length (tokensAt (c .args .text .now) (c .args .a .after)) (tokensAt b (c .in-Some-take-infix .link .after)) (c .in-Some-take-infix .ensures tt .0) (c .in-Some-take-infix .ensures tt .1) in
-    record { grown = grown-on F G K (r .grown) (j .grown); few = omega (arith, r .few, j .few, q);
-      goes = λ e s. let l = s .level in (reader.part (levelOf (c .in-Some-take-infix .link .op)) (makes (c .in-Some-take-infix .link .op) (e .it) (r .it)), more-joins (c .args .left) (c .args .level) (levelOf (c .in-Some-take-infix .link .op)) (leftOf (c .in-Some-take-infix .link .op)) (makes (c .in-Some-take-infix .link .op)) e (tokensAt (c .args .text .now) (c .args .a .after)) (tokensAt (c .args .text .now) (c .in-Some-take-infix .link .after)) (c .in-Some-take-infix .ensures tt .0) (omega (arith, c .level-of .ensures)) (omega (arith, c .left-under .ensures)) (c .in-Some-take-infix .ensures tt .1) ∙ then-is _ (ap (λ n. reader.expr (c .args .left) n (tokensAt (c .args .text .now) (c .in-Some-take-infix .link .after))) (sym (add-one _ ∙ ap suc (c .level-of .ensures))) ∙ r .is) refl,
-        record { stands = j .stands b (e .it) (r .it) (kept b (e .it) F G (r .grown) _ (s .stands)) (r .stands) (omega (arith, s .within, grown-length F G (r .grown))) (r .within); counts = (λ i. s .counts i || r .says i) ∙ sym (makes-aggregates (c .in-Some-take-infix .link .op) (e .it) (r .it)); level = c .level-of .ensures; within = j .within }) }
+    record {
+      grown = grown-on F G K (r .grown) (j .grown);
+      few = omega (arith, r .few, j .few, q);
+      goes = λ e s. let l = s .level in (
+        reader.part (levelOf (c .in-Some-take-infix .link .op)) (makes (c .in-Some-take-infix .link .op) (e .it) (r .it)),
+        more-joins (c .args .left) (c .args .level) (levelOf (c .in-Some-take-infix .link .op)) (leftOf (c .in-Some-take-infix .link .op)) (makes (c .in-Some-take-infix .link .op)) e (tokensAt (c .args .text .now) (c .args .a .after)) (tokensAt (c .args .text .now) (c .in-Some-take-infix .link .after)) (c .in-Some-take-infix .ensures tt .0) (omega (arith, c .level-of .ensures)) (omega (arith, c .left-under .ensures)) (c .in-Some-take-infix .ensures tt .1) ∙ then-is _ (ap (λ n. reader.expr (c .args .left) n (tokensAt (c .args .text .now) (c .in-Some-take-infix .link .after))) (sym (add-one _ ∙ ap suc (c .level-of .ensures))) ∙ r .is) refl,
+        record { stands = j .stands b (e .it) (r .it) (kept b (e .it) F G (r .grown) _ (s .stands)) (r .stands) (omega (arith, s .within, grown-length F G (r .grown))) (r .within); counts = (λ i. s .counts i || r .says i) ∙ sym (makes-aggregates (c .in-Some-take-infix .link .op) (e .it) (r .it)); level = c .level-of .ensures; within = j .within },
+      );
+    }
 
 pub groups-returns-in-rest : need.groups-returns-in-rest
 unfolding toExprs
@@ -239,8 +262,15 @@ keys-returns-in-rest t c = keys-step (c .args .left) (tokensAt (c .args .text .n
 pub keys-returns-in-rest-take-sign : need.keys-returns-in-rest-take-sign
 unfolding toKeys aggregatesKey
 keys-returns-in-rest-take-sign t c = let b = c .args .text .now in let T = c .args .nodes .now in let e = c .in-Some .ensures tt in let n = pushed (c .expr .last .nodes) (c .push-node .last .self) _ _ (c .push-node .ensures) in let w = direction-length (tokensAt (c .args .text .now) (c .in-Some .e .after)) (tokensAt (c .args .text .now) (c .direction-way .result .after)) _ (c .direction-way .ensures) in
-    record { it = record { by = e .it; down = c .direction-way .result .down } ∷ []; is = keys-step (c .args .left) (tokensAt (c .args .text .now) (c .args .at)) (c .if-left-eq0 .left) ∙ listed-last (reader.aKey (reader.expr (c .args .left - 1) 0)) (reader.keys (c .args .left - 1)) _ _ _ (key-got (reader.expr (c .args .left - 1) 0) _ _ _ _ _ (e .is) (c .direction-way .ensures)) (c .in-rest-take-sign .ensures tt); stands = stand-key b (filled (c .expr .last .nodes)) (filled (c .push-node .last .self)) (e .it) (c .direction-way .result .down) [] _ 0 _ n (e .stands) (e .within) refl (omega (arith, e .within));
-      says = e .says ∙ sym (or-false _); within = n .within; grown = grown-on (filled T) (filled (c .expr .last .nodes)) (filled (c .push-node .last .self)) (e .grown) (n .grown); few = omega (arith, e .few, n .more, w) }
+    record {
+      it = record { by = e .it; down = c .direction-way .result .down } ∷ [];
+      is = keys-step (c .args .left) (tokensAt (c .args .text .now) (c .args .at)) (c .if-left-eq0 .left) ∙ listed-last (reader.aKey (reader.expr (c .args .left - 1) 0)) (reader.keys (c .args .left - 1)) _ _ _ (key-got (reader.expr (c .args .left - 1) 0) _ _ _ _ _ (e .is) (c .direction-way .ensures)) (c .in-rest-take-sign .ensures tt);
+      stands = stand-key b (filled (c .expr .last .nodes)) (filled (c .push-node .last .self)) (e .it) (c .direction-way .result .down) [] _ 0 _ n (e .stands) (e .within) refl (omega (arith, e .within));
+      says = e .says ∙ sym (or-false _);
+      within = n .within;
+      grown = grown-on (filled T) (filled (c .expr .last .nodes)) (filled (c .push-node .last .self)) (e .grown) (n .grown);
+      few = omega (arith, e .few, n .more, w);
+    }
 
 pub keys-keys-requires : need.keys-keys-requires
 keys-keys-requires t c κs = let b = c .args .text .now in let T = c .args .nodes .now in let e = c .in-Some .ensures tt in let w = direction-length (tokensAt (c .args .text .now) (c .in-Some .e .after)) (tokensAt (c .args .text .now) (c .direction-way .result .after)) _ (c .direction-way .ensures) in let l = taken-length (isSign 44) (tokensAt (c .args .text .now) (c .direction-way .result .after)) (tokensAt (c .args .text .now) (c .in-Some-take-sign .comma)) (c .in-Some-take-sign .ensures tt .0) (c .in-Some-take-sign .ensures tt .1) in (omega (arith, c .measured), ready-on b T (c .expr .last .nodes) (c .args .at) (c .in-Some-take-sign .comma) (c .pre) (e .grown) (omega (arith, e .few, w, l)))
@@ -255,9 +285,15 @@ pub keys-returns : need.keys-returns
 unfolding toKeys aggregatesKey
 keys-returns t c = let b = c .args .text .now in let T = c .args .nodes .now in let e = c .in-Some .ensures tt in let r = c .in-Some-keys .ensures tt in let n = pushed (c .keys .last .nodes) (c .push-node-2 .last .self) _ _ (c .push-node-2 .ensures) in let w = direction-length (tokensAt (c .args .text .now) (c .in-Some .e .after)) (tokensAt (c .args .text .now) (c .direction-way .result .after)) _ (c .direction-way .ensures) in let l = taken-length (isSign 44) (tokensAt (c .args .text .now) (c .direction-way .result .after)) (tokensAt (c .args .text .now) (c .in-Some-take-sign .comma)) (c .in-Some-take-sign .ensures tt .0) (c .in-Some-take-sign .ensures tt .1) in
     let F = filled (c .expr .last .nodes) in let G = filled (c .keys .last .nodes) in let K = filled (c .push-node-2 .last .self) in
-    record { it = record { by = e .it; down = c .direction-way .result .down } ∷ r .it; is = keys-step (c .args .left) (tokensAt (c .args .text .now) (c .args .at)) (c .if-left-eq0 .left) ∙ listed-on (reader.aKey (reader.expr (c .args .left - 1) 0)) (reader.keys (c .args .left - 1)) _ _ _ _ _ _ (key-got (reader.expr (c .args .left - 1) 0) _ _ _ _ _ (e .is) (c .direction-way .ensures)) (c .in-Some-take-sign .ensures tt .0) (c .in-Some-take-sign .ensures tt .1) (r .is);
+    record {
+      it = record { by = e .it; down = c .direction-way .result .down } ∷ r .it;
+      is = keys-step (c .args .left) (tokensAt (c .args .text .now) (c .args .at)) (c .if-left-eq0 .left) ∙ listed-on (reader.aKey (reader.expr (c .args .left - 1) 0)) (reader.keys (c .args .left - 1)) _ _ _ _ _ _ (key-got (reader.expr (c .args .left - 1) 0) _ _ _ _ _ (e .is) (c .direction-way .ensures)) (c .in-Some-take-sign .ensures tt .0) (c .in-Some-take-sign .ensures tt .1) (r .is);
       stands = stand-key b G K (e .it) (c .direction-way .result .down) (r .it) _ _ _ n (kept b (e .it) F G (r .grown) _ (e .stands)) (omega (arith, e .within, grown-length F G (r .grown))) (r .stands) (r .within);
-      says = (λ i. e .says i || r .says i); within = n .within; grown = grown-on (filled T) F K (e .grown) (grown-on F G K (r .grown) (n .grown)); few = omega (arith, e .few, r .few, n .more, w, l) }
+      says = (λ i. e .says i || r .says i);
+      within = n .within;
+      grown = grown-on (filled T) F K (e .grown) (grown-on F G K (r .grown) (n .grown));
+      few = omega (arith, e .few, r .few, n .more, w, l);
+    }
 
 pub negation-returns : need.negation-returns
 unfolding aggregates
@@ -357,7 +393,7 @@ question-push-node-requires t c κs = let b = c .args .text .now in let T = c .a
 
 pub question-returns : need.question-returns
 unfolding reader.question reader.filtered
-question-returns t c = let b = c .args .text .now in let T = c .args .nodes .now in let l0 = taken-length (isWord kSelect) (tokensAt (c .args .text .now) (c .args .at)) (tokensAt (c .args .text .now) (c .in-Some .select)) (c .in-Some .ensures tt .0) (c .in-Some .ensures tt .1) in let l1 = distinct-length (tokensAt (c .args .text .now) (c .in-Some .select)) (tokensAt (c .args .text .now) (c .distinction-distinct .result .after)) _ (c .distinction-distinct .ensures) in let o = (c .in-Some-exprs .ensures tt) in let gO = o .grown in let l2 = taken-length (isWord kFrom) (tokensAt (c .args .text .now) (c .in-Some-exprs .out .after)) (tokensAt (c .args .text .now) (c .in-Some-take-key .table)) (c .in-Some-take-key .ensures tt .0) (c .in-Some-take-key .ensures tt .1) in let f = (c .in-Some-sources .ensures tt) in let gF = grown-on (filled T) (filled (c .exprs .last .nodes)) (filled (c .sources .last .nodes)) gO (f .grown) in let w = (c .in-Some-condition .ensures tt) in let gW = grown-on (filled T) (filled (c .sources .last .nodes)) (filled (c .condition .last .nodes)) gF (w .grown) in let g = (c .in-Some-groups .ensures tt) in let gG = grown-on (filled T) (filled (c .condition .last .nodes)) (filled (c .groups .last .nodes)) gW (g .grown) in let k = (c .in-Some-orders .ensures tt) in let gK = grown-on (filled T) (filled (c .groups .last .nodes)) (filled (c .orders .last .nodes)) gG (k .grown) in let m = (c .in-Some-limits .ensures tt) in let gL = grown-on (filled T) (filled (c .orders .last .nodes)) (filled (c .limits .last .nodes)) gK (m .grown) in 
+question-returns t c = let b = c .args .text .now in let T = c .args .nodes .now in let l0 = taken-length (isWord kSelect) (tokensAt (c .args .text .now) (c .args .at)) (tokensAt (c .args .text .now) (c .in-Some .select)) (c .in-Some .ensures tt .0) (c .in-Some .ensures tt .1) in let l1 = distinct-length (tokensAt (c .args .text .now) (c .in-Some .select)) (tokensAt (c .args .text .now) (c .distinction-distinct .result .after)) _ (c .distinction-distinct .ensures) in let o = (c .in-Some-exprs .ensures tt) in let gO = o .grown in let l2 = taken-length (isWord kFrom) (tokensAt (c .args .text .now) (c .in-Some-exprs .out .after)) (tokensAt (c .args .text .now) (c .in-Some-take-key .table)) (c .in-Some-take-key .ensures tt .0) (c .in-Some-take-key .ensures tt .1) in let f = (c .in-Some-sources .ensures tt) in let gF = grown-on (filled T) (filled (c .exprs .last .nodes)) (filled (c .sources .last .nodes)) gO (f .grown) in let w = (c .in-Some-condition .ensures tt) in let gW = grown-on (filled T) (filled (c .sources .last .nodes)) (filled (c .condition .last .nodes)) gF (w .grown) in let g = (c .in-Some-groups .ensures tt) in let gG = grown-on (filled T) (filled (c .condition .last .nodes)) (filled (c .groups .last .nodes)) gW (g .grown) in let k = (c .in-Some-orders .ensures tt) in let gK = grown-on (filled T) (filled (c .groups .last .nodes)) (filled (c .orders .last .nodes)) gG (k .grown) in let m = (c .in-Some-limits .ensures tt) in let gL = grown-on (filled T) (filled (c .orders .last .nodes)) (filled (c .limits .last .nodes)) gK (m .grown) in
     let n = pushed (c .limits .last .nodes) (c .push-node .last .self) _ _ (c .push-node .ensures) in
     let H1 = filled (c .exprs .last .nodes) in let H2 = filled (c .sources .last .nodes) in let H3 = filled (c .condition .last .nodes) in let H4 = filled (c .groups .last .nodes) in let H5 = filled (c .orders .last .nodes) in let H6 = filled (c .limits .last .nodes) in let V = filled (c .push-node .last .self) in
     let u6 = n .grown in let u5 = grown-on H5 H6 V (m .grown) u6 in let u4 = grown-on H4 H5 V (k .grown) u5 in let u3 = grown-on H3 H4 V (g .grown) u4 in let u2 = grown-on H2 H3 V (w .grown) u3 in let u1 = grown-on H1 H2 V (f .grown) u2 in
@@ -369,7 +405,22 @@ question-returns t c = let b = c .args .text .now in let T = c .args .nodes .now
     record {
       it = reader.asked (c .distinction-distinct .result .down) (o .it) (f .it) (w .it) (g .it) (k .it) (m .it);
       is = choose-yes (isWord kSelect) _ _ _ _ (c .in-Some .ensures tt .0) (c .in-Some .ensures tt .1) ∙ then-is _ (c .distinction-distinct .ensures) (then-is _ ((c .in-Some-exprs .ensures tt) .is) (choose-yes (isWord kFrom) _ _ _ _ (c .in-Some-take-key .ensures tt .0) (c .in-Some-take-key .ensures tt .1) ∙ (then-is _ ((c .in-Some-sources .ensures tt) .is) (then-is _ ((c .in-Some-condition .ensures tt) .is) (then-is _ ((c .in-Some-groups .ensures tt) .is) (then-is _ ((c .in-Some-orders .ensures tt) .is) (then-is _ ((c .in-Some-limits .ensures tt) .is) (refl))))))));
-      stands = (_, n .at, refl, (λ i. g .are i || o .says .0 i || k .says i), (omega (arith, n .last, lo, o .within), omega (arith, n .last, lf, f .within), omega (arith, n .last, lw, w .within), omega (arith, n .last, lg, g .by-within), omega (arith, n .last, lg, g .having-within), omega (arith, n .last, lk, k .within), omega (arith, n .last, m .within)),
-        exprs-kept b (toExprs (o .it)) H1 V u1 _ (o .stands), sources-kept b (f .it) H2 V u2 _ (f .stands), kept b (w .it) H3 V u3 _ (w .stands), exprs-kept b (toExprs (g .it .by)) H4 V u4 _ (g .by), kept b (g .it .having) H4 V u4 _ (g .having), keys-kept b (toKeys (k .it)) H5 V u5 _ (k .stands), limit-kept (m .it) H6 V u6 _ (m .stands));
-      says = o .says .1; within = n .within; grown = grown-on (filled T) H6 V gL u6; few = omega (arith, l0, l1, o .few, l2, f .few, w .few, g .few, k .few, m .few, n .more);
+      stands = (
+        _,
+        n .at,
+        refl,
+        (λ i. g .are i || o .says .0 i || k .says i),
+        (omega (arith, n .last, lo, o .within), omega (arith, n .last, lf, f .within), omega (arith, n .last, lw, w .within), omega (arith, n .last, lg, g .by-within), omega (arith, n .last, lg, g .having-within), omega (arith, n .last, lk, k .within), omega (arith, n .last, m .within)),
+        exprs-kept b (toExprs (o .it)) H1 V u1 _ (o .stands),
+        sources-kept b (f .it) H2 V u2 _ (f .stands),
+        kept b (w .it) H3 V u3 _ (w .stands),
+        exprs-kept b (toExprs (g .it .by)) H4 V u4 _ (g .by),
+        kept b (g .it .having) H4 V u4 _ (g .having),
+        keys-kept b (toKeys (k .it)) H5 V u5 _ (k .stands),
+        limit-kept (m .it) H6 V u6 _ (m .stands),
+      );
+      says = o .says .1;
+      within = n .within;
+      grown = grown-on (filled T) H6 V gL u6;
+      few = omega (arith, l0, l1, o .few, l2, f .few, w .few, g .few, k .few, m .few, n .more);
     }

@@ -30,7 +30,8 @@ returns-in-rest c =
       is = choose-no (isSign 46) _ _ _ (c .in-rest .ensures tt) ∙ ap (λ a. gets (reader.part 7 (tree.col [] (name b (x .span)))) (tokensAt b a)) (sym (c .leaf .ensures .1 .1 .1));
       stands = (_, x .span, n .at, refl, refl);
       says = (c .leaf .ensures .1 .1 .0, c .leaf .ensures .1 .0);
-      within = n .within; grown = n .grown;
+      within = n .within;
+      grown = n .grown;
       few = omega (arith, n .more, ap (λ a. length (tokensAt b a)) (c .leaf .ensures .1 .1 .1));
     }
 
@@ -51,6 +52,7 @@ returns c =
       is = choose-yes (isSign 46) _ _ _ _ (c .in-Some .ensures tt .0) (c .in-Some .ensures tt .1) ∙ then-is _ (c .in-Some-take-name .ensures tt) (ap (λ a. gets (reader.part 7 (tree.col (name b (x .span)) (name b (y .span)))) (tokensAt b a)) (sym (c .leaf-2 .ensures .1 .1 .1)));
       stands = (x .span, y .span, n .at, refl, refl);
       says = (c .leaf-2 .ensures .1 .1 .0, c .leaf-2 .ensures .1 .0);
-      within = n .within; grown = n .grown;
+      within = n .within;
+      grown = n .grown;
       few = omega (arith, n .more, ap (λ a. length (tokensAt b a)) (c .leaf-2 .ensures .1 .1 .1));
     }

@@ -97,4 +97,3 @@ returns-in-Times c =
     let n = pushed (c .args .nodes .now) (c .push-in-Times .last .self) _ _ (c .push-in-Times .ensures) in
     subst (λ o. Joined (c .args .nodes .now) (c .push-in-Times .last .self) o (c .args .a) (c .args .b) (c .push-in-Times .result)) (sym (c .in-Times .is))
     (record { stands = λ b x y s t l k. paired b (filled (c .args .nodes .now)) (filled (c .push-in-Times .last .self)) op.Times x y _ _ _ n s t l k; within = n .within; grown = n .grown; few = omega (arith, n .more) })
-

@@ -35,14 +35,24 @@ returns-in-Some c =
     let n = pushed T U _ _ (c .push-null .ensures) in
     let m = pushed U V _ _ (c .push-node .ensures) in
     let l1 = taken-length (isWord kNot) (tokensAt b (c .args .at)) (tokensAt b (c .in-Some .not)) (c .in-Some .ensures tt .0) (c .in-Some .ensures tt .1) in
-    let l2 = taken-length (isWord kNull) (tokensAt b (c .in-Some .not)) (tokensAt b (c .in-Some-take-key .after)) (c .in-Some-take-key .ensures tt .0) (c .in-Some-take-key .ensures tt .1) in
-    (true, choose-yes (isWord kNot) _ _ _ _ (c .in-Some .ensures tt .0) (c .in-Some .ensures tt .1) ∙ choose-yes (isWord kNull) _ _ _ _ (c .in-Some-take-key .ensures tt .0) (c .in-Some-take-key .ensures tt .1),
-     record {
-       grown = grown-on (filled T) (filled U) (filled V) (n .grown) (m .grown);
-       few = omega (arith, n .more, m .more);
-       goes = λ e s. (reader.part 3 (reader.tested true (e .it)), refl, record {
-         stands = (c .push-null .result, m .at, omega (arith, m .last, n .within), kept b (tree.isnull (e .it)) (filled U) (filled V) (m .grown) (c .push-null .result) (c .args .a .node, n .at, omega (arith, n .last, s .within), kept b (e .it) (filled T) (filled U) (n .grown) (c .args .a .node) (s .stands)));
-         counts = s .counts; level = refl; within = m .within }) })
+    let l2 = taken-length (isWord kNull) (tokensAt b (c .in-Some .not)) (tokensAt b (c .in-Some-take-key .after)) (c .in-Some-take-key .ensures tt .0) (c .in-Some-take-key .ensures tt .1) in (
+      true,
+      choose-yes (isWord kNot) _ _ _ _ (c .in-Some .ensures tt .0) (c .in-Some .ensures tt .1) ∙ choose-yes (isWord kNull) _ _ _ _ (c .in-Some-take-key .ensures tt .0) (c .in-Some-take-key .ensures tt .1),
+      record {
+        grown = grown-on (filled T) (filled U) (filled V) (n .grown) (m .grown);
+        few = omega (arith, n .more, m .more);
+        goes = λ e s. (
+          reader.part 3 (reader.tested true (e .it)),
+          refl,
+          record {
+            stands = (c .push-null .result, m .at, omega (arith, m .last, n .within), kept b (tree.isnull (e .it)) (filled U) (filled V) (m .grown) (c .push-null .result) (c .args .a .node, n .at, omega (arith, n .last, s .within), kept b (e .it) (filled T) (filled U) (n .grown) (c .args .a .node) (s .stands)));
+            counts = s .counts;
+            level = refl;
+            within = m .within;
+          },
+        );
+      },
+    )
 
 pub returns-in-rest-take-key-2 : need.returns-in-rest-take-key-2
 returns-in-rest-take-key-2 c = choose-no (isWord kNot) _ _ _ (c .in-rest .ensures tt) ∙ choose-no (isWord kNull) _ _ _ (c .in-rest-take-key-2 .ensures tt)
@@ -54,11 +64,21 @@ returns c =
     let T = c .args .nodes .now in
     let U = c .push-node-2 .last .self in
     let n = pushed T U _ _ (c .push-node-2 .ensures) in
-    let l1 = taken-length (isWord kNull) (tokensAt b (c .args .at)) (tokensAt b (c .in-Some-take-key-2 .after)) (c .in-Some-take-key-2 .ensures tt .0) (c .in-Some-take-key-2 .ensures tt .1) in
-    (false, choose-no (isWord kNot) _ _ _ (c .in-rest .ensures tt) ∙ choose-yes (isWord kNull) _ _ _ _ (c .in-Some-take-key-2 .ensures tt .0) (c .in-Some-take-key-2 .ensures tt .1),
-     record {
-       grown = n .grown;
-       few = omega (arith, n .more);
-       goes = λ e s. (reader.part 3 (reader.tested false (e .it)), refl, record {
-         stands = (c .args .a .node, n .at, omega (arith, n .last, s .within), kept b (e .it) (filled T) (filled U) (n .grown) (c .args .a .node) (s .stands));
-         counts = s .counts; level = refl; within = n .within }) })
+    let l1 = taken-length (isWord kNull) (tokensAt b (c .args .at)) (tokensAt b (c .in-Some-take-key-2 .after)) (c .in-Some-take-key-2 .ensures tt .0) (c .in-Some-take-key-2 .ensures tt .1) in (
+      false,
+      choose-no (isWord kNot) _ _ _ (c .in-rest .ensures tt) ∙ choose-yes (isWord kNull) _ _ _ _ (c .in-Some-take-key-2 .ensures tt .0) (c .in-Some-take-key-2 .ensures tt .1),
+      record {
+        grown = n .grown;
+        few = omega (arith, n .more);
+        goes = λ e s. (
+          reader.part 3 (reader.tested false (e .it)),
+          refl,
+          record {
+            stands = (c .args .a .node, n .at, omega (arith, n .last, s .within), kept b (e .it) (filled T) (filled U) (n .grown) (c .args .a .node) (s .stands));
+            counts = s .counts;
+            level = refl;
+            within = n .within;
+          },
+        );
+      },
+    )

@@ -24,4 +24,3 @@ abbrev pub μ-query-within : given.MeasureT-query-within
 
 abbrev pub μ-within : given.MeasureT-within
 μ-within l = 4 * l .left + 1
-

@@ -3,4 +3,3 @@ use Rattle.text.proofs.printer.+cols.Given as given
 
 abbrev pub μ-cols : given.MeasureT-cols
 μ-cols l = l .left
-

@@ -3,4 +3,3 @@ use Rattle.text.proofs.printer.+names.Given as given
 
 abbrev pub μ-names : given.MeasureT-names
 μ-names l = l .left
-

@@ -3,4 +3,3 @@ use Rattle.text.proofs.printer.+number.Given as given
 
 abbrev pub μ-number : given.MeasureT-number
 μ-number l = l .n
-

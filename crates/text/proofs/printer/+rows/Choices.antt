@@ -3,4 +3,3 @@ use Rattle.text.proofs.printer.+rows.Given as given
 
 abbrev pub μ-rows : given.MeasureT-rows
 μ-rows l = l .left
-

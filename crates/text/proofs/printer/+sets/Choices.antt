@@ -3,4 +3,3 @@ use Rattle.text.proofs.printer.+sets.Given as given
 
 abbrev pub μ-sets : given.MeasureT-sets
 μ-sets l = l .left
-

@@ -3,4 +3,3 @@ use Rattle.text.proofs.printer.+sources.Given as given
 
 abbrev pub μ-sources : given.MeasureT-sources
 μ-sources l = l .left
-

@@ -34,7 +34,11 @@ returns-in-rest-take-key c =
     record {
       it = tree.upTo (c .in-Some-take-number .most .value) 0;
       is = choose-yes (isWord kLimit) _ _ _ _ (c .in-Some .ensures tt .0) (c .in-Some .ensures tt .1) ∙ then-is _ (c .in-Some-take-number .ensures tt) (choose-no (isWord kOffset) _ _ _ (c .in-rest-take-key .ensures tt));
-      stands = n .at; says = tt; within = n .within; grown = n .grown; few = omega (arith, n .more);
+      stands = n .at;
+      says = tt;
+      within = n .within;
+      grown = n .grown;
+      few = omega (arith, n .more);
     }
 
 pub returns-in-rest-take-number-2 : need.returns-in-rest-take-number-2
@@ -51,5 +55,9 @@ returns c =
     record {
       it = tree.upTo (c .in-Some-take-number .most .value) (c .in-Some-take-number-2 .skip .value);
       is = choose-yes (isWord kLimit) _ _ _ _ (c .in-Some .ensures tt .0) (c .in-Some .ensures tt .1) ∙ then-is _ (c .in-Some-take-number .ensures tt) (choose-yes (isWord kOffset) _ _ _ _ (c .in-Some-take-key .ensures tt .0) (c .in-Some-take-key .ensures tt .1) ∙ then-is _ (c .in-Some-take-number-2 .ensures tt) refl);
-      stands = n .at; says = tt; within = n .within; grown = n .grown; few = omega (arith, n .more);
+      stands = n .at;
+      says = tt;
+      within = n .within;
+      grown = n .grown;
+      few = omega (arith, n .more);
     }

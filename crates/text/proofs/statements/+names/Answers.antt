@@ -38,4 +38,3 @@ push-node-requires-2 t c κs = let b = c .args .text .now in let T = c .args .no
 pub returns : need.returns
 returns t c = let b = c .args .text .now in let T = c .args .nodes .now in let l0 = name-length (tokensAt (c .args .text .now) (c .args .at)) (tokensAt b (c .in-Some .name .after)) _ (c .in-Some .ensures tt) in let r = c .in-Some-names .ensures tt in let lc = taken-length (isSign 44) (tokensAt (c .args .text .now) (c .in-Some .name .after)) (tokensAt (c .args .text .now) (c .in-Some-take-sign .comma)) (c .in-Some-take-sign .ensures tt .0) (c .in-Some-take-sign .ensures tt .1) in let n = pushed (c .names .last .nodes) (c .push-node-2 .last .self) _ _ (c .push-node-2 .ensures) in let G = filled (c .names .last .nodes) in let K = filled (c .push-node-2 .last .self) in
     record { it = name b (c .in-Some .name .span) ∷ r .it; is = list-step reader.aName (c .args .left) (tokensAt (c .args .text .now) (c .args .at)) (c .if-left-eq0 .left) ∙ listed-on reader.aName (reader.listOf reader.aName (c .args .left - 1)) _ _ _ _ _ _ (c .in-Some .ensures tt) (c .in-Some-take-sign .ensures tt .0) (c .in-Some-take-sign .ensures tt .1) (r .is); stands = (c .in-Some .name .span, c .in-Some-names .rest .node, n .at, omega (arith, n .last, r .within), refl, names-kept b (r .it) G K (n .grown) _ (r .stands)); says = tt; within = n .within; grown = grown-on (filled T) (filled (T)) K (grown-none (filled T)) (grown-on (filled (T)) G K (r .grown) (n .grown)); few = omega (arith, n .more, r .few, lc, l0) }
-

@@ -47,4 +47,3 @@ returns t c = let b = c .args .text .now in let T = c .args .nodes .now in let l
 
 pub push-node-requires : need.push-node-requires
 push-node-requires t c κs = let b = c .args .text .now in let T = c .args .nodes .now in let l0 = taken-length (isSign 40) (tokensAt (c .args .text .now) (c .args .at)) (tokensAt (c .args .text .now) (c .in-Some .open)) (c .in-Some .ensures tt .0) (c .in-Some .ensures tt .1) in let e = (c .in-Some-exprs .ensures tt) in let l1 = taken-length (isSign 41) (tokensAt (c .args .text .now) (c .in-Some-exprs .row .after)) (tokensAt (c .args .text .now) (c .in-Some-take-sign .close)) (c .in-Some-take-sign .ensures tt .0) (c .in-Some-take-sign .ensures tt .1) in omega (arith, l0, l1, e .few, c .pre .room)
-

@@ -50,4 +50,3 @@ push-node-requires t c κs = let b = c .args .text .now in let T = c .args .node
 
 pub expr-requires : need.expr-requires
 expr-requires t c κs = let b = c .args .text .now in let T = c .args .nodes .now in let l0 = name-length (tokensAt (c .args .text .now) (c .args .at)) (tokensAt b (c .in-Some .name .after)) _ (c .in-Some .ensures tt) in let l1 = taken-length (isSign 61) (tokensAt (c .args .text .now) (c .in-Some .name .after)) (tokensAt (c .args .text .now) (c .in-Some-take-sign .equals)) (c .in-Some-take-sign .ensures tt .0) (c .in-Some-take-sign .ensures tt .1) in ready-same b T (c .args .at) (c .in-Some-take-sign .equals) (c .pre) (omega (arith, l0, l1))
-

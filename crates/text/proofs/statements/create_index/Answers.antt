@@ -40,4 +40,3 @@ returns-in-rest-take-sign-2 c = then-is _ (c .in-Some .ensures tt) (choose-yes (
 
 pub returns : need.returns
 returns c = let b = c .args .text .now in let T = c .args .nodes .now in let e = (c .in-Some-names .ensures tt) in (tree.createIndex (c .args .unique) (name b (c .in-Some .name .span)) (name b (c .in-Some-take-name .table .span)) (e .it), then-is _ (c .in-Some .ensures tt) (choose-yes (isWord kOn) _ _ _ _ (c .in-Some-take-key .ensures tt .0) (c .in-Some-take-key .ensures tt .1) ∙ then-is _ (c .in-Some-take-name .ensures tt) (choose-yes (isSign 40) _ _ _ _ (c .in-Some-take-sign .ensures tt .0) (c .in-Some-take-sign .ensures tt .1) ∙ then-is _ (e .is) (choose-yes (isSign 41) _ _ _ _ (c .in-Some-take-sign-2 .ensures tt .0) (c .in-Some-take-sign-2 .ensures tt .1)))), (_, _, _, refl, refl, refl, e .stands))
-

@@ -34,4 +34,3 @@ returns-in-rest-take-sign-2 c = then-is _ (c .in-Some .ensures tt) (choose-yes (
 
 pub returns : need.returns
 returns c = let b = c .args .text .now in let T = c .args .nodes .now in let e = (c .in-Some-cols .ensures tt) in (tree.createTable (name b (c .in-Some .name .span)) (e .it), then-is _ (c .in-Some .ensures tt) (choose-yes (isSign 40) _ _ _ _ (c .in-Some-take-sign .ensures tt .0) (c .in-Some-take-sign .ensures tt .1) ∙ then-is _ (e .is) (choose-yes (isSign 41) _ _ _ _ (c .in-Some-take-sign-2 .ensures tt .0) (c .in-Some-take-sign-2 .ensures tt .1))), (_, _, refl, refl, e .stands))
-

@@ -36,4 +36,3 @@ returns-in-rest-condition c = choose-yes (isWord kFrom) _ _ _ _ (c .in-Some .ens
 pub returns : need.returns
 unfolding reader.delete
 returns c = let b = c .args .text .now in let T = c .args .nodes .now in let w = (c .in-Some-condition .ensures tt) in (tree.delete (name b (c .in-Some-take-name .name .span)) (w .it), choose-yes (isWord kFrom) _ _ _ _ (c .in-Some .ensures tt .0) (c .in-Some .ensures tt .1) ∙ then-is _ (c .in-Some-take-name .ensures tt) (then-is _ (w .is) refl), (_, _, refl, refl, w .stands))
-

@@ -36,4 +36,3 @@ returns-in-rest-take-name-2 c = choose-no (isWord kTable) _ _ _ (c .in-rest .ens
 pub returns : need.returns
 unfolding reader.drop
 returns c = let b = c .args .text .now in (tree.dropIndex (name b (c .in-Some-take-name-2 .name .span)), choose-no (isWord kTable) _ _ _ (c .in-rest .ensures tt) ∙ choose-yes (isWord kIndex) _ _ _ _ (c .in-Some-take-key .ensures tt .0) (c .in-Some-take-key .ensures tt .1) ∙ then-is _ (c .in-Some-take-name-2 .ensures tt) refl, λ f. (_, refl, refl))
-

@@ -48,4 +48,3 @@ returns-in-rest-question c = choose-yes (isWord kInto) _ _ _ _ (c .in-Some .ensu
 pub returns : need.returns
 unfolding reader.insert
 returns c = let b = c .args .text .now in let T = c .args .nodes .now in let e = (c .in-Some-question .ensures tt) in (tree.insertFrom (name b (c .in-Some-take-name .name .span)) (e .it), choose-yes (isWord kInto) _ _ _ _ (c .in-Some .ensures tt .0) (c .in-Some .ensures tt .1) ∙ then-is _ (c .in-Some-take-name .ensures tt) (choose-no (isWord kValues) _ _ _ (c .in-rest-take-key .ensures tt) ∙ then-is _ (e .is) refl), (_, _, refl, refl, e .stands))
-

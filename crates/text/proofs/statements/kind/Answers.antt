@@ -25,4 +25,3 @@ returns-in-rest-take-key c = choose-no (isWord kInt) _ _ _ (c .in-rest .ensures 
 
 pub returns : need.returns
 returns c = choose-no (isWord kInt) _ _ _ (c .in-rest .ensures tt) ∙ choose-yes (isWord kText) _ _ _ _ (c .in-Some-take-key .ensures tt .0) (c .in-Some-take-key .ensures tt .1)
-

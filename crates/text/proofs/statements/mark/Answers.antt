@@ -25,4 +25,3 @@ returns-then-keep c = let b = c .args .text .now in (tree.savepoint (name b (c .
 
 pub returns : need.returns
 returns c = let b = c .args .text .now in (tree.release (name b (c .in-Some .name .span)), then-is _ (c .in-Some .ensures tt) (ap (λ k. gets (marks k (name b (c .in-Some .name .span))) (tokensAt b (c .in-Some .name .after))) (c .if-keep .left)), λ f. (_, refl, refl))
-

@@ -25,4 +25,3 @@ returns-in-rest-take-key c = choose-yes (isWord kNot) _ _ _ _ (c .in-Some .ensur
 
 pub returns : need.returns
 returns c = choose-yes (isWord kNot) _ _ _ _ (c .in-Some .ensures tt .0) (c .in-Some .ensures tt .1) ∙ choose-yes (isWord kNull) _ _ _ _ (c .in-Some-take-key .ensures tt .0) (c .in-Some-take-key .ensures tt .1)
-

@@ -25,4 +25,3 @@ returns-in-rest-take-name c = choose-yes (isWord kTo) _ _ _ _ (c .in-Some .ensur
 
 pub returns : need.returns
 returns c = let b = c .args .text .now in (tree.rollbackTo (name b (c .in-Some-take-name .name .span)), choose-yes (isWord kTo) _ _ _ _ (c .in-Some .ensures tt .0) (c .in-Some .ensures tt .1) ∙ then-is _ (c .in-Some-take-name .ensures tt) refl, λ f. (_, refl, refl))
-

@@ -64,4 +64,3 @@ returns-in-rest-question c = choose-no (isWord kCreate) _ _ _ (c .in-rest .ensur
 pub returns : need.returns
 unfolding reader.statement
 returns c = let b = c .args .text .now in let T = c .args .nodes .now in let e = (c .in-Some-question .ensures tt) in (tree.select (e .it), choose-no (isWord kCreate) _ _ _ (c .in-rest .ensures tt) ∙ choose-no (isWord kDrop) _ _ _ (c .in-rest-take-key .ensures tt) ∙ choose-no (isWord kInsert) _ _ _ (c .in-rest-take-key-2 .ensures tt) ∙ choose-no (isWord kUpdate) _ _ _ (c .in-rest-take-key-3 .ensures tt) ∙ choose-no (isWord kDelete) _ _ _ (c .in-rest-take-key-4 .ensures tt) ∙ choose-no (isWord kBegin) _ _ _ (c .in-rest-take-key-5 .ensures tt) ∙ choose-no (isWord kCommit) _ _ _ (c .in-rest-take-key-6 .ensures tt) ∙ choose-no (isWord kRollback) _ _ _ (c .in-rest-take-key-7 .ensures tt) ∙ choose-no (isWord kSavepoint) _ _ _ (c .in-rest-take-key-8 .ensures tt) ∙ choose-no (isWord kRelease) _ _ _ (c .in-rest-take-key-9 .ensures tt) ∙ then-is _ (e .is) refl, (_, refl, e .stands))
-

@@ -44,4 +44,3 @@ returns-in-rest-condition c = then-is _ (c .in-Some .ensures tt) (choose-yes (is
 pub returns : need.returns
 unfolding reader.update
 returns c = let b = c .args .text .now in let T = c .args .nodes .now in let e = (c .in-Some-sets .ensures tt) in let w = (c .in-Some-condition .ensures tt) in (tree.update (name b (c .in-Some .name .span)) (e .it) (w .it), then-is _ (c .in-Some .ensures tt) (choose-yes (isWord kSet) _ _ _ _ (c .in-Some-take-key .ensures tt .0) (c .in-Some-take-key .ensures tt .1) ∙ then-is _ (e .is) (then-is _ (w .is) refl)), (_, _, _, refl, refl, sets-kept b (e .it) (filled (c .sets .last .nodes)) (filled (c .condition .last .nodes)) (w .grown) _ (e .stands), w .stands))
-

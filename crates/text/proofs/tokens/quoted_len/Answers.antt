@@ -14,8 +14,11 @@ pub loop-n-again : need.loop-n-again
 loop-n-again c = quoting-two _ _ (c .loop-n .inv) (omega arith) (search needs) (search needs)
 
 pub returns-else-n-s : need.returns-else-n-s
-returns-else-n-s c = (c .loop-n-test .taken, quoting-end _ _ (c .loop-n .inv) (c .loop-n-test .taken) (c .if-s-n-ne39 .left)
-  (λ l e. elim (c .else-n-s .came) [ else-n-s·by·then-n-s·else-s-n-eq39 w ↦ w .if-s-n-eq39 .left e | else-n-s·by·else-n-s w ↦ omega (arith, w .if-n-s .left) ]))
+returns-else-n-s c = (
+  c .loop-n-test .taken,
+  quoting-end _ _ (c .loop-n .inv) (c .loop-n-test .taken) (c .if-s-n-ne39 .left)
+      (λ l e. elim (c .else-n-s .came) [ else-n-s·by·then-n-s·else-s-n-eq39 w ↦ w .if-s-n-eq39 .left e | else-n-s·by·else-n-s w ↦ omega (arith, w .if-n-s .left) ]),
+)
 
 pub returns : need.returns
 returns c = quoting-all _ _ (c .loop-n .inv) (omega arith)
