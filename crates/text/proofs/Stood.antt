@@ -5,7 +5,7 @@ use mathlib.Core.List.{List, [], _∷_, _++_, append-assoc, append-nil}
 use Prim.Native.Nat.{ℕ, zero, suc, _+_, _*_, _<_, _≤_}
 use native.Mathlib.Omega.{arith}
 use lib.IntN.{pos, negsuc}
-use lib.ListN.{length, length-append}
+use lib.ListN.{length, take, getD, length-append}
 use Rattle.std.proofs.shelf.Lists.{length-push}
 use Rattle.meaning.specs.Value as value
 use Rattle.meaning.specs.Value.{Value}
@@ -143,3 +143,11 @@ rows-kept b (x ∷ rs) f h up i s = (s .0, s .1, at-kept f h up i _ (s .2), s .3
 pub sets-kept : (b : List ℕ) (ss : List Set) (f h : List Node) → Grown f h → (i : ℕ) → StandsSets b f ss i → StandsSets b h ss i
 sets-kept b [] f h up i s = s
 sets-kept b (x ∷ ss) f h up i s = (s .0, s .1, (s .2 .0, s .2 .1, at-kept f h up i _ (s .2 .2), s .2 .3, s .2 .4, kept b (x .to) f h up _ (s .2 .5), sets-kept b ss f h up _ (s .2 .6)))
+
+-- the node that is read at an index is the one that stands there
+pub found : (xs : List Node) (n i : ℕ) (x : Node) → i < length (take n xs) → x ≡ getD xs i x → find (take n xs) i ≡ Some x
+unfolding find
+found xs zero i x l e = absurd (omega arith)
+found [] (suc n) i x l e = absurd (omega arith)
+found (y ∷ xs) (suc n) zero x l e = ap Some (sym e)
+found (y ∷ xs) (suc n) (suc i) x l e = found xs n i x (omega arith) e

@@ -12,7 +12,7 @@ ghost use Rattle.meaning.specs.Text.{kHaving};
 ghost use Rattle.grammar.specs.Reader as reader;
 ghost use Rattle.grammar.specs.Reader.{andThen, choose, past, gets, isSign, isWord, folded as foldedOf, part as partOf, asks};
 ghost use Rattle.text.specs.Cut.{tokensAt, Short, name as nameOf};
-ghost use Rattle.text.specs.Stands.{filled, folds as foldsTo};
+ghost use Rattle.text.specs.Stands.{filled, At, folds as foldsTo};
 ghost use Rattle.text.specs.Found.{Pushed, Joined, Ready, Further, ReadsExpr, ReadsPart, ReadsCondition, ReadsExprs, ReadsKeys, ReadsQuery, ReadsGroups, Directed, ReadsAfter, Tested};
 use crate::nodes::Fold;
 use crate::nodes::Node;
@@ -48,6 +48,17 @@ impl Nodes {
         self.nodes[at] = node;
         self.len = at + 1;
         at as u16
+    }
+
+    // The node at an index; null where there is none.
+    pub fn get(&self, i: u16) -> Node
+        ensures { λ r. ⌜ (i < length (filled (now (self .entry))) → At (filled (now (self .entry))) i r) ⌝ }
+    {
+        let at = i as usize;
+        if at < self.len {
+            return self.nodes[at];
+        }
+        Node::Null
     }
 }
 

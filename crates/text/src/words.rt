@@ -85,7 +85,7 @@ pub fn bytes_of(text: &[u8], s: Span) -> &[u8]
     &text[from..to]
 }
 
-fn small_of(b: u8) -> u8
+pub fn small_of(b: u8) -> u8
     ensures { λ r. ⌜ r ≡ small b ⌝ }
 {
     match b {

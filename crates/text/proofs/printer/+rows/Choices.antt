@@ -1,0 +1,5 @@
+use Prim.Native.Nat.{ℕ, _+_, _*_}
+use Rattle.text.proofs.printer.+rows.Given as given
+
+abbrev pub μ-rows : given.MeasureT-rows
+μ-rows l = l .left
