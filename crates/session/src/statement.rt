@@ -15,12 +15,10 @@ use pages::frames::PageReply;
 use std::alloc::AllocError;
 use std::alloc::Global;
 use text::Nodes;
+use text::Refusal;
 
 // The page that says what is kept.
 pub const HEADER: u64 = 0;
-
-// The bytes that a statement may have.
-pub const LONGEST: usize = 4096;
 
 // What a text was read as.
 #[derive(Clone, Copy)]
@@ -52,12 +50,10 @@ pub struct Session {
 fn hear_text(nodes: &mut Nodes, text: &[u8]) -> Heard
     ensures { λ r. ⌜ HeardAs (now (text .entry)) r ⌝ }
 {
-    if text.len() > LONGEST {
-        return Heard::TooLong;
-    }
     match text::read(nodes, text) {
         Ok(_) => Heard::Statement,
-        Err(_) => Heard::Unread,
+        Err(Refusal::Unread) => Heard::Unread,
+        Err(Refusal::TooLong) => Heard::TooLong,
     }
 }
 

@@ -303,6 +303,6 @@ marks false = tree.release
 
 -- the answer to a text: the statement that it is, in the nodes; that it is none; that it is too long
 abbrev pub ReadText : List ℕ → Nodes → Result made.Statement Refusal → Type 0
-ReadText b u (Ok s) = (st : Statement) × Reads b st × StandsFor b (filled u) st s
+ReadText b u (Ok s) = Short b × ((st : Statement) × Reads b st × StandsFor b (filled u) st s)
 ReadText b u (Err Unread) = Short b × ((st : Statement) → Reads b st → ⊥)
 ReadText b u (Err TooLong) = 4096 < length b

@@ -32,4 +32,4 @@ returns-in-rest-tok c = let b = c .args .text .now in let f = length b + 1 in le
 
 pub returns : need.returns
 returns c = let b = c .args .text .now in let f = length b + 1 in let s = c .in-Some .ensures tt in
-    (s .0, sound-all f (tokens Between b) (s .0) (ap (reader.statement f) (sym (c .next .ensures)) ∙ s .1 ∙ ap (gets (s .0)) (ended b (c .in-Some .said .after) (c .in-End .is))), s .2)
+    (omega arith, (s .0, sound-all f (tokens Between b) (s .0) (ap (reader.statement f) (sym (c .next .ensures)) ∙ s .1 ∙ ap (gets (s .0)) (ended b (c .in-Some .said .after) (c .in-End .is))), s .2))
