@@ -4,11 +4,11 @@ use device::Over;
 use device::OverStore;
 use device::Store;
 use device::vector::Vector;
-use pager::state::Pager;
-use pager::state::work::PagerStore;
-use pages::frames::Frames;
-use pages::frames::PageReply;
-use pages::frames::work::FramesLayer;
+use pager::Pager;
+use pager::PagerStore;
+use pages::Frames;
+use pages::FramesLayer;
+use pages::PageReply;
 use std::alloc::AllocError;
 use std::alloc::Global;
 
@@ -67,7 +67,7 @@ pub fn run(
 
 // What coming up asks for, on a blank device of any size.
 pub fn opening(heap: Global, size: u64) -> Result<Asks, AllocError> {
-    let mut store = pages::frames::work::open(heap, size)?;
+    let mut store = pages::open(heap, size)?;
     let given = [0; 512];
     let mut asks = none();
     for _ in 0..100000u32 {

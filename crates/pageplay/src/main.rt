@@ -10,12 +10,12 @@ use device::vector::Vector;
 use drive::Asks;
 use model::Model;
 use model::PAGES;
-use pager::state::Pager;
-use pager::state::work::PagerStore;
-use pages::frames::Frames;
-use pages::frames::PageCall;
-use pages::frames::PageReply;
-use pages::frames::work::FramesLayer;
+use pager::Pager;
+use pager::PagerStore;
+use pages::Frames;
+use pages::FramesLayer;
+use pages::PageCall;
+use pages::PageReply;
 use std::alloc::AllocError;
 use std::alloc::Global;
 use std::io;
@@ -43,7 +43,7 @@ struct Play {
 
 fn start(heap: Global, seed: u64) -> Result<Play, AllocError> {
     let disk = Vector::blank(4096, heap)?;
-    let store = pages::frames::work::open(heap, 4096)?;
+    let store = pages::open(heap, 4096)?;
     let mut play = Play {
         store,
         disk,
@@ -150,7 +150,7 @@ fn cut(heap: Global, play: &mut Play, asks: u32, choice: u64) -> Result<(), Allo
     play.store.call(PageCall::Commit, &[]);
     let _ = drive::run(&mut play.store, &mut play.disk, asks)?;
     play.disk.cut(choice);
-    play.store = pages::frames::work::open(heap, 4096)?;
+    play.store = pages::open(heap, 4096)?;
     let _ = drive::run(&mut play.store, &mut play.disk, 1000)?;
     if is_new(play)? {
         model::commit(&mut play.model);

@@ -1,17 +1,15 @@
 -- Parts of a page and what a write to one leaves.
-use mathlib.Core.Path.{_≡_, refl, sym, ap, _∙_}
-use mathlib.Core.List.{List, [], _∷_, _++_, append-assoc}
+use mathlib.Core.Path.{_≡_, refl, ap, _∙_}
+use mathlib.Core.List.{List, [], _∷_, _++_}
 use Prim.Native.Nat.{ℕ, zero, suc, _+_, _-_, _*_, _/_, _%_, _^_, _<_, _≤_}
 use native.Mathlib.Omega.{arith}
-use lib.ListN.{length, getD, replicate, set, take, drop, length-append}
+use lib.ListN.{length, take, drop}
 use native.Mathlib.Nat.{pow-suc, div-div-eq-div-mul}
 use Rattle.std.proofs.shelf.Lists.{length-push}
 use Rattle.std.proofs.shelf.Bits.{div-below, div-add-mod'}
 use borrow.Author.Needs.{needs}
-use borrow.Rule.Slice.PartMut.{putMid, postOf}
-use Rattle.std.proofs.shelf.Lists.{drop-drop, drop-more, same-lists, places, getD-set-same, getD-set-other, length-set}
-use Rattle.std.proofs.shelf.Tests.{cases-eq}
-use Rattle.std.proofs.shelf.Bits.{div-mul-add, mod-mul-add}
+use borrow.Rule.Slice.PartMut.{putMid}
+use Rattle.std.proofs.shelf.Lists.{drop-drop, same-lists, places}
 use Rattle.std.specs.shelf.Digits.{number}
 use Rattle.std.proofs.shelf.Digits.{number-push}
 use Rattle.shadow.specs.Layout.{part, put}
@@ -33,14 +31,10 @@ pub part-put : (xs ys : List ℕ) (a n : ℕ) → n ≡ length ys → a + n ≤ 
 unfolding put
 part-put xs ys a n e h = same-lists _ _ (search (needs, places)) (λ k d l. grind (arith, places))
 
--- what lies before or behind stays
+-- what lies before stays
 pub part-before : (xs ys : List ℕ) (a b n : ℕ) → b + n ≤ a → a + length ys ≤ length xs → part (put xs a ys) b n ≡ part xs b n
 unfolding put
 part-before xs ys a b n e h = same-lists _ _ (search (needs, places)) (λ k d l. grind (arith, places))
-
-pub part-behind : (xs ys : List ℕ) (a b n : ℕ) → a + length ys ≤ b → a + length ys ≤ length xs → part (put xs a ys) b n ≡ part xs b n
-unfolding put
-part-behind xs ys a b n e h = same-lists _ _ (search (needs, places)) (λ k d l. grind (arith, places))
 
 pub length-be : (k n : ℕ) → length (be k n) ≡ k
 unfolding be

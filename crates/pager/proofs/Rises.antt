@@ -1,6 +1,6 @@
 -- The pager as it comes up: what a step does to the invariant.
 use mathlib.Core.Path.{_≡_, refl, sym, _∙_, ap, subst}
-use mathlib.Core.Logic.{_⊎_, inl, inr}
+use mathlib.Core.Logic.{inl, inr}
 use mathlib.Core.Bool.{Bool, true, false}
 use mathlib.Core.List.{List}
 use Prim.Native.Nat.{ℕ, _+_, _*_, _/_, _%_, _<_, _≤_}
@@ -10,12 +10,11 @@ use lib.ListN.{getD}
 use borrow.Author.Tests.{eqb-true, eqb-false}
 use Rattle.std.specs.Of.Vec.{vec-items}
 use Rattle.device.specs.Device.{Device, shown}
-use Rattle.device.specs.declared.Ask.the-variants.{Read, Write, Sync, Again, Answer}
 use Rattle.device.proofs.Sectors.{shown-calm}
 use Rattle.device.proofs.Standing.{Then}
 use Rattle.shadow.specs.Layout.{other, areaAt, areaIn, entryIn}
 use Rattle.shadow.proofs.Shadow.{Body, body-as, above-as, above-same}
-use Rattle.pager.specs.Steps.{Asking, bs, ws, os, ys, hs, Goes, HeaderAt, Linked, FetchAt, LoadAt, CheckAt, CompareAt, PhaseAt}
+use Rattle.pager.specs.Steps.{Asking, bs, ws, os, ys, hs, FetchAt, LoadAt, CheckAt, CompareAt, PhaseAt}
 use Rattle.pager.specs.Model.{Held}
 use Rattle.pager.specs.declared.state.Phase.{Phase}
 use Rattle.pager.specs.declared.state.Phase.the-variants.{Opening, Header, Fetch, Loading, Check, Comparing, Idle, Asked, Short, Getting, Putting, Filling, Settled, Marked, Sealed}

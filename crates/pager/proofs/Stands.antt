@@ -1,55 +1,27 @@
 -- The pager keeps to its model, stays within the device and ends.
 use mathlib.Core.Path.{_≡_, refl, sym, _∙_, ap, subst}
 use mathlib.Core.Logic.{_⊎_, inl, inr}
-use mathlib.Core.Bool.{Bool, true, false, cond}
-use mathlib.Core.List.{List, [], _∷_, _++_}
-use Prim.Native.Nat.{ℕ, zero, suc, _+_, _-_, _*_, _/_, _%_, _<_, _≤_}
+use mathlib.Core.Bool.{Bool, false, cond}
+use mathlib.Core.List.{List, [], _∷_}
+use Prim.Native.Nat.{ℕ, zero, suc, _+_, _-_, _*_, _%_, _<_, _≤_}
 use native.Mathlib.Omega.{arith}
 use lib.Dec.{eqb, leb}
-use lib.ListN.{length, getD, take, drop}
+use lib.ListN.{getD, take, drop}
 use lib.Seq.{getD-drop}
-use Rattle.std.specs.shelf.Digits.{number, numberAfter}
+use Rattle.std.specs.shelf.Digits.{numberAfter}
 use Rattle.std.proofs.shelf.Tests.{le-leb}
-use Rattle.device.specs.Device.{Device, blankDevice, zeros, shown, AfterCut, With, and, Begun, Sector, Sized}
-use Rattle.device.specs.Runs.{Asks, Mode, works, waits, Fair, Within, Ends, Whole}
-use Rattle.device.specs.declared.Ask.{Ask}
+use Rattle.device.specs.Device.{Device, blankDevice, zeros, AfterCut, With, and, Sector, Sized}
+use Rattle.device.specs.Runs.{Asks, works, waits, Fair}
 use Rattle.device.specs.declared.Never.{Never}
 use Rattle.device.specs.declared.Ask.the-variants.{Read, Write, Sync, Again, Hand, Answer}
 use Rattle.device.proofs.Sectors.{cut-one, begun-none}
 use Rattle.device.proofs.Standing.{Standing, Then, keeps}
 use Rattle.device.proofs.Ending.{Steady, within-by, ends-by}
 use Rattle.device.proofs.Ending as ending
-use Rattle.shadow.specs.Layout.{pages, mapSectors, slots, other, areaAt, slotAt, areaIn, rawIn, entryIn, part, blankPage}
+use Rattle.shadow.specs.Layout.{pages, mapSectors, slots, other, areaAt, areaIn, rawIn, entryIn, part}
 use Rattle.shadow.proofs.Pages.{zeros-at}
 use Rattle.shadow.proofs.Shadow.{area-low, body-cut}
-use Rattle.pager.specs.Steps.{
-  Asking,
-  bs,
-  ws,
-  held,
-  Opened,
-  Same,
-  Sizes,
-  FetchAt,
-  LoadAt,
-  CheckAt,
-  CompareAt,
-  GetAt,
-  GettingAt,
-  PutAt,
-  PutsIn,
-  GiveAt,
-  Gives,
-  PuttingAt,
-  FoundAt,
-  NotFound,
-  FillAt,
-  CallAt,
-  PhaseAt,
-  Stepped,
-  Taken,
-  Called,
-}
+use Rattle.pager.specs.Steps.{Asking, bs, ws, held, CallAt, PhaseAt, Stepped, Taken}
 use Rattle.pager.specs.Model.{Held, undone, committed, Replies, commits, startHeld, pagerJudge, pagerEngine, PagerWhole}
 use Rattle.pager.specs.declared.state.Call.{Call}
 use Rattle.pager.specs.declared.state.Call.the-variants.{Get, Put, Give, Vacant, Commit, Undo}

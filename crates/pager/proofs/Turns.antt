@@ -1,8 +1,8 @@
 -- From the entries of one map sector to the pages, and one turn of the loops over entries.
-use mathlib.Core.Path.{_≡_, refl, sym, _∙_, ap, subst}
+use mathlib.Core.Path.{_≡_, refl, sym, _∙_, ap}
 use mathlib.Core.Bool.{Bool, true, false, cond, _&&_}
 use mathlib.Core.List.{List, [], _∷_}
-use Prim.Native.Nat.{ℕ, zero, suc, _+_, _*_, _/_, _%_, _^_, _<_, _≤_}
+use Prim.Native.Nat.{ℕ, _+_, _*_, _/_, _^_, _<_, _≤_}
 use native.Mathlib.Omega.{arith}
 use lib.Dec.{eqb}
 use lib.ListN.{length, getD, set, length-set}
@@ -11,12 +11,9 @@ use borrow.Author.Tests.{eqb-true, eqb-false, eq-eqb, ne-eqb}
 use Rattle.std.proofs.shelf.Lists.{drop-more, drop-all}
 use lib.ListN.{drop}
 use Rattle.std.specs.shelf.Digits.{number}
-use Rattle.shadow.specs.Layout.{rawIn, part, put, blank}
+use Rattle.shadow.specs.Layout.{rawIn, put, blank}
 use Rattle.pager.specs.Digits.{be}
 use Rattle.pager.proofs.Bytes.{part-put, part-before, length-be, number-be}
-
-pub by-page : (f g : ℕ → ℕ) (i : ℕ) → ((k : ℕ) → k < 64 → f (64 * i + k) ≡ g k) → (p : ℕ) → p / 64 ≡ i → f p ≡ g (p % 64)
-by-page f g i h p e = let z : p ≡ 64 * i + p % 64 = omega arith in ap f z ∙ h (p % 64) (omega arith)
 
 -- of a list after a write
 pub set-at : {A : Type 0} (l : List A) (i j : ℕ) (a d : A) → i < length l → j ≡ i → getD (set l i a) j d ≡ a

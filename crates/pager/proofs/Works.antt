@@ -2,22 +2,20 @@
 use mathlib.Core.Path.{_≡_, refl, sym, _∙_, ap, subst}
 use mathlib.Core.Logic.{_⊎_, inl, inr}
 use mathlib.Core.Bool.{Bool, true, false, cond}
-use mathlib.Core.List.{List, [], _∷_, _++_}
-use Prim.Native.Nat.{ℕ, zero, suc, _+_, _*_, _/_, _%_, _<_, _≤_}
+use mathlib.Core.List.{List, _∷_, _++_}
+use Prim.Native.Nat.{ℕ, _+_, _*_, _/_, _<_, _≤_}
 use native.Mathlib.Omega.{arith}
 use lib.Dec.{eqb, leb}
-use lib.ListN.{length, getD, set, take}
+use lib.ListN.{length, getD, take}
 use lib.Seq.{getD-set-same, getD-set-other}
-use borrow.Author.Tests.{eqb-true, eqb-false}
-use Rattle.std.specs.Of.Vec.{vec-len, vec-items}
+use Rattle.std.specs.Of.Vec.{vec-items}
 use Rattle.std.proofs.shelf.Lists.{take-all}
 use Rattle.std.proofs.shelf.Tests.{le-leb}
 use Rattle.device.specs.Device.{Device, latest, shown, written, synced, With, and}
-use Rattle.device.specs.declared.Ask.{Ask}
-use Rattle.device.specs.declared.Ask.the-variants.{Read, Write, Sync, Again, Answer}
+use Rattle.device.specs.declared.Ask.the-variants.{Write, Sync, Again, Answer}
 use Rattle.device.proofs.Sectors.{since-same}
 use Rattle.device.proofs.Standing.{Then}
-use Rattle.shadow.specs.Layout.{other, areaAt, slotAt, areaIn, pageIn, gather, put, blank, blankPage, updated, Free}
+use Rattle.shadow.specs.Layout.{other, areaAt, slotAt, areaIn, pageIn, gather, put, blank, updated, Free}
 use Rattle.shadow.proofs.Pages.{page-slot, page-write, Laid, laid-none, laid-more, got-more, gather-none}
 use Rattle.shadow.proofs.Shadow.{
   area-low,
@@ -47,44 +45,7 @@ use Rattle.shadow.proofs.Shadow.{
   free-base,
   free-now,
 }
-use Rattle.pager.specs.Steps.{
-  Asking,
-  bs,
-  ws,
-  os,
-  ys,
-  hs,
-  held,
-  Same,
-  Sizes,
-  Goes,
-  GetsBlank,
-  GetsSlot,
-  GetAt,
-  Reads,
-  GotAll,
-  GettingAt,
-  Owned,
-  Entered,
-  Given,
-  Refused,
-  SlotFor,
-  Clears,
-  PutsIn,
-  PutAt,
-  Gives,
-  GiveAt,
-  Lays,
-  PuttingAt,
-  FoundAt,
-  NotFound,
-  UndoAt,
-  Fills,
-  FillAt,
-  SealAt,
-  CallAt,
-  PhaseAt,
-}
+use Rattle.pager.specs.Steps.{Asking, bs, ws, os, ys, hs, held, Same, Goes, GetAt, GettingAt, Owned, Entered, Given, SlotFor, Clears, PutsIn, PutAt, Gives, GiveAt, Lays, PuttingAt, FoundAt, NotFound, UndoAt, FillAt, SealAt, CallAt, PhaseAt}
 use Rattle.pager.specs.Model.{Held, undone, committed, changed, cleared, Replies, gets, getsNone, puts, clears, putsNone, putsShort, full, lends, lendsNone, lendsFull, finds, findsNone, commits, undoes}
 use Rattle.pager.specs.declared.state.Call.{Call}
 use Rattle.pager.specs.declared.state.Call.the-variants.{Get, Put, Give, Vacant, Commit, Undo}
@@ -93,7 +54,7 @@ use Rattle.pager.specs.declared.state.Reply.the-variants.{Page, Done, NoRoom, 
 use Rattle.pager.specs.declared.state.Phase.{Phase}
 use Rattle.pager.specs.declared.state.Phase.the-variants.{Opening, Header, Fetch, Loading, Check, Comparing, Idle, Asked, Short, Getting, Putting, Filling, Settled, Marked, Sealed}
 use Rattle.pager.specs.declared.state.Pager.{Pager}
-use Rattle.pager.proofs.Bytes.{length-put, take-put}
+use Rattle.pager.proofs.Bytes.{take-put}
 use Rattle.pager.proofs.Invariant.{
   Of,
   view-moved,

@@ -2,15 +2,15 @@
 use mathlib.Core.Path.{_≡_}
 use mathlib.Core.Logic.{_⊎_}
 use mathlib.Core.Bool.{Bool, true, false, cond}
-use mathlib.Core.List.{List, [], _∷_}
+use mathlib.Core.List.{List}
 use Prim.Native.Nat.{ℕ, _+_, _*_, _/_, _%_, _<_, _≤_}
 use lib.ListN.{length, getD, set}
-use Rattle.std.specs.Of.Vec.{vec-len, vec-items}
+use Rattle.std.specs.Of.Vec.{vec-items}
 use Rattle.shadow.specs.Layout.{pages, mapSectors, slots, other, areaAt, slotAt, areaIn, part, put, blank, blankPage, rawIn, entryIn, Free}
 use Rattle.device.specs.Device.{With, Sector}
 use Rattle.device.specs.declared.Ask.{Ask}
 use Rattle.device.specs.declared.Never.{Never}
-use Rattle.device.specs.declared.Ask.the-variants.{Read, Write, Sync, Again, Hand, Answer}
+use Rattle.device.specs.declared.Ask.the-variants.{Read, Write, Sync, Again, Answer}
 use Rattle.pager.specs.declared.state.Call.{Call}
 use Rattle.pager.specs.declared.state.Call.the-variants.{Get, Put, Give, Vacant, Commit, Undo}
 use Rattle.pager.specs.declared.state.Reply.{Reply}

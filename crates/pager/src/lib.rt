@@ -9,3 +9,8 @@
 // It holds no pages in memory but the one under way, and stands on `device` and `shadow`; a cache of pages is a layer above it.
 pub mod leaves;
 pub mod state;
+
+pub use state::Call;
+pub use state::Pager;
+pub use state::Reply;
+pub use state::work::PagerStore;

@@ -1,17 +1,15 @@
 -- The pager's state, the frames and the pages: what they have to do with each other, and what a change of a frame does to that. No device is in here.
 use mathlib.Core.Path.{_≡_, refl, sym, _∙_, ap, subst}
-use mathlib.Core.Logic.{_⊎_, inl, inr}
 use mathlib.Core.Bool.{Bool, true, false, cond, _&&_, not}
 use mathlib.Core.List.{List, [], _∷_}
-use Prim.Native.Nat.{ℕ, zero, suc, _+_, _-_, _*_, _%_, _<_, _≤_}
+use Prim.Native.Nat.{ℕ, zero, suc, _+_, _-_, _<_, _≤_}
 use native.Mathlib.Omega.{arith}
 use lib.Dec.{eqb}
 use lib.ListN.{length}
 use borrow.Author.Tests.{ne-eqb, eq-eqb, eqb-true, eqb-false}
 use Rattle.device.specs.Device.{zeros}
 use Rattle.shadow.specs.Layout.{blank, blankPage, updated, count}
-use Rattle.shadow.proofs.Count.{count-lt, count-le, and-true, true-and}
-use Rattle.shadow.proofs.Pages.{blank-zeros}
+use Rattle.shadow.proofs.Count.{count-lt, count-le, and-true}
 use Rattle.pager.specs.Model.{Held, undone, committed, changed, cleared, Crowded}
 use Rattle.pages.specs.Layer.{frameOf}
 use Rattle.pages.specs.Model.{Pages, putPage, keep, drop}

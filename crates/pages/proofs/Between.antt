@@ -1,112 +1,33 @@
 -- Between the pager and the pages: what the pager answers, and what holds at each place of the frames.
-use mathlib.Core.Path.{_≡_, refl, sym, _∙_, ap, subst}
+use mathlib.Core.Path.{_≡_, refl, sym, _∙_, ap}
 use mathlib.Core.Logic.{_⊎_, inl, inr}
-use mathlib.Core.Bool.{Bool, true, false, cond, _&&_, not}
-use mathlib.Core.List.{List, [], _∷_, _++_}
-use Prim.Native.Nat.{ℕ, zero, suc, _+_, _-_, _*_, _%_, _<_, _≤_}
+use mathlib.Core.Bool.{Bool, true, false, not}
+use mathlib.Core.List.{List, []}
+use Prim.Native.Nat.{ℕ, _+_, _-_, _<_, _≤_}
 use native.Mathlib.Omega.{arith}
-use lib.Dec.{eqb, leb}
-use Rattle.std.proofs.shelf.Tests.{leb-true, leb-false}
-use lib.ListN.{length, getD, set}
-use lib.Seq.{getD-set-same, getD-set-other}
-use borrow.Author.Tests.{eqb-true, eqb-false}
-use Rattle.std.specs.Of.Vec.{vec-len, vec-items}
-use Rattle.device.specs.Device.{With, and, Sized}
-use Rattle.device.specs.Layers.{Place, down, below, raised, lifting, rests, begun, midst, up}
+use lib.ListN.{length, getD}
+use Rattle.std.specs.Of.Vec.{vec-items}
+use Rattle.device.specs.Device.{With, and}
+use Rattle.device.specs.Layers.{Place, down, below, raised, lifting, rests, begun, midst}
 use Rattle.device.specs.declared.Never.{Never}
 use Rattle.device.specs.declared.Next.{Next}
 use Rattle.device.specs.declared.Next.the-variants as next
-use Rattle.device.proofs.Sectors.{begun-none}
-use Rattle.device.proofs.StandingAbove.{Led, Cut, StandingAbove}
-use Rattle.shadow.specs.Layout.{pages, slots, blank, blankPage, updated, count}
-use Rattle.shadow.proofs.Pages.{blank-zeros}
-use Rattle.pager.specs.Model.{Held, undone, committed, changed, cleared, Crowded, pagerJudge}
+use Rattle.shadow.specs.Layout.{pages, blank}
+use Rattle.pager.specs.Model.{Held, undone, committed, changed, cleared, Crowded}
 use Rattle.pager.specs.Model as low
 use Rattle.pager.specs.declared.state.Call.{Call}
 use Rattle.pager.specs.declared.state.Call.the-variants as call
 use Rattle.pager.specs.declared.state.Reply.{Reply}
 use Rattle.pager.specs.declared.state.Reply.the-variants as reply
-use Rattle.pages.specs.Layer.{
-  Turn,
-  replyOf,
-  frameOf,
-  tg,
-  st,
-  fr,
-  given,
-  sendOf,
-  Same,
-  Goes,
-  Refills,
-  Vacates,
-  Stores,
-  WritesBack,
-  Hit,
-  GetBy,
-  GetStarts,
-  PutBy,
-  PutStarts,
-  Flushes,
-  Commits,
-  FlushOn,
-  UndoStarts,
-  CallStarts,
-  Starts,
-  OwnBy,
-  Owns,
-  Told,
-  ClearBy,
-  Cleared,
-  Made,
-  Fetched,
-  Flushed,
-  Hears,
-  TakenBy,
-  Takes,
-  Wakes,
-  framesLayer,
-}
-use Rattle.pages.specs.Model.{Pages, blankPages, putPage, keep, drop, kept, Replies, gets, getsNone, puts, full, putsNone, putsShort, finds, findsNone, commits, undoes, pagesJudge}
+use Rattle.pages.specs.Layer.{frameOf, tg, st, fr, given, Same}
+use Rattle.pages.specs.Model.{Pages, putPage, Replies, gets, getsNone, puts, full, putsNone, putsShort, finds, findsNone, commits, undoes}
 use Rattle.pages.specs.declared.frames.PageCall.{PageCall}
 use Rattle.pages.specs.declared.frames.PageCall.the-variants.{Get, Put, Vacant, Commit, Undo}
-use Rattle.pages.specs.declared.frames.PageReply.{PageReply}
 use Rattle.pages.specs.declared.frames.PageReply.the-variants.{Page, Done, NoRoom, At, Nowhere, Outside}
 use Rattle.pages.specs.declared.frames.Doing.{Doing}
 use Rattle.pages.specs.declared.frames.Doing.the-variants.{Rising, Resting, Asked, Short, Owning, Evicting, Clearing, Making, Fetching, Searching, Flushing, Committing, Undoing}
 use Rattle.pages.specs.declared.frames.Frames.{Frames}
-use Rattle.pages.proofs.Agree.{
-  not-true,
-  not-false,
-  at-same,
-  at-other,
-  Core,
-  Cache,
-  None,
-  Only,
-  cache-but,
-  cache-fill,
-  cache-leave,
-  cache-plain,
-  cache-weak,
-  cache-wrote,
-  wrote-holds,
-  wrote-own,
-  own-full,
-  core-wrote,
-  core-put,
-  core-again,
-  core-clear,
-  blank-same,
-  Based,
-  based,
-  Down,
-  down-of,
-  cache-empty,
-  clean-same,
-  core-keep,
-  cache-keep,
-  room,
-}
+use Rattle.pages.proofs.Agree.{Core, Cache, None, Down}
 
 -- WHAT THE PAGER ANSWERS
 module _ (N S : ℕ) where

@@ -1,12 +1,11 @@
 -- Every call of the frames ends, whatever the pager answers; and the frames on the pager as a whole.
-use mathlib.Core.Path.{_≡_, refl, sym, _∙_, ap, subst}
-use mathlib.Core.Logic.{_⊎_, inl, inr}
+use mathlib.Core.Path.{_≡_, sym, subst}
+use mathlib.Core.Logic.{inl, inr}
 use mathlib.Core.Bool.{Bool, true, false}
 use mathlib.Core.List.{List}
-use Prim.Native.Nat.{ℕ, _+_, _-_, _*_, _/_, _<_, _≤_}
+use Prim.Native.Nat.{ℕ, _+_, _-_, _<_, _≤_}
 use native.Mathlib.Omega.{arith}
 use Rattle.shadow.specs.Layout.{blank}
-use Rattle.device.specs.Device.{With, Sized}
 use Rattle.device.specs.Layers.{Whose, its, belows, none, after, EndsAbove, BothOpen, bothOpen}
 use Rattle.device.specs.declared.Over.{Over}
 use Rattle.device.specs.declared.Never.{Never}
@@ -24,7 +23,7 @@ use Rattle.pager.specs.declared.state.Call.the-variants as call
 use Rattle.pager.specs.declared.state.Reply.{Reply}
 use Rattle.pager.specs.declared.state.Reply.the-variants as reply
 use Rattle.pager.proofs.Stands.{pager-whole}
-use Rattle.pages.specs.Layer.{Turn, replyOf, frameOf, tg, st, given, Goes, Stores, WritesBack, GetBy, PutBy, Flushes, Commits, FlushOn, CallStarts, Starts, OwnBy, Told, Hears, framesLayer}
+use Rattle.pages.specs.Layer.{Turn, replyOf, frameOf, tg, st, given, GetBy, PutBy, FlushOn, CallStarts, Starts, OwnBy, Hears, framesLayer}
 use Rattle.pages.specs.Model.{pagesJudge, PagesWhole, RoomStands, Memory, Takings}
 use Rattle.pages.specs.declared.frames.PageCall.{PageCall}
 use Rattle.pages.specs.declared.frames.PageCall.the-variants.{Get, Put, Vacant, Commit, Undo}

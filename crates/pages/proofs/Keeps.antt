@@ -1,72 +1,32 @@
 -- The frames keep to the model of pages above any store that keeps to the pager's, and so on the device.
 use mathlib.Core.Path.{_≡_, refl, sym, _∙_, ap, subst}
 use mathlib.Core.Logic.{_⊎_, inl, inr}
-use mathlib.Core.Bool.{Bool, true, false, cond, _&&_, not}
-use mathlib.Core.List.{List, [], _∷_, _++_}
-use Prim.Native.Nat.{ℕ, zero, suc, _+_, _-_, _*_, _%_, _<_, _≤_}
+use mathlib.Core.Bool.{Bool, true, false, cond}
+use mathlib.Core.List.{List, []}
+use Prim.Native.Nat.{ℕ, _+_, _-_, _<_, _≤_}
 use native.Mathlib.Omega.{arith}
 use lib.Dec.{eqb, leb}
 use Rattle.std.proofs.shelf.Tests.{leb-true, leb-false}
-use lib.ListN.{length, getD, set}
+use lib.ListN.{length, getD}
 use lib.Seq.{getD-set-same, getD-set-other}
 use borrow.Author.Tests.{eqb-true, eqb-false}
-use Rattle.std.specs.Of.Vec.{vec-len, vec-items}
+use Rattle.std.specs.Of.Vec.{vec-items}
 use Rattle.device.specs.Device.{With, and, Sized}
-use Rattle.device.specs.Layers.{Place, down, below, raised, lifting, rests, begun, midst, up}
+use Rattle.device.specs.Layers.{down, below, up}
 use Rattle.device.specs.declared.Never.{Never}
 use Rattle.device.specs.declared.Next.{Next}
 use Rattle.device.specs.declared.Next.the-variants as next
 use Rattle.device.proofs.Sectors.{begun-none}
-use Rattle.device.proofs.StandingAbove.{Led, Cut, StandingAbove}
-use Rattle.shadow.specs.Layout.{pages, slots, blank, blankPage, updated, count}
-use Rattle.shadow.proofs.Pages.{blank-zeros}
+use Rattle.device.proofs.StandingAbove.{Led, StandingAbove}
+use Rattle.shadow.specs.Layout.{pages, slots, blank, blankPage, updated}
 use Rattle.pager.specs.Model.{Held, undone, committed, changed, cleared, Crowded, pagerJudge}
 use Rattle.pager.specs.Model as low
 use Rattle.pager.specs.declared.state.Call.{Call}
 use Rattle.pager.specs.declared.state.Call.the-variants as call
 use Rattle.pager.specs.declared.state.Reply.{Reply}
 use Rattle.pager.specs.declared.state.Reply.the-variants as reply
-use Rattle.pages.specs.Layer.{
-  Turn,
-  replyOf,
-  frameOf,
-  tg,
-  st,
-  fr,
-  given,
-  sendOf,
-  Same,
-  Goes,
-  Refills,
-  Vacates,
-  Stores,
-  WritesBack,
-  Hit,
-  GetBy,
-  GetStarts,
-  PutBy,
-  PutStarts,
-  Flushes,
-  Commits,
-  FlushOn,
-  UndoStarts,
-  CallStarts,
-  Starts,
-  OwnBy,
-  Owns,
-  Told,
-  ClearBy,
-  Cleared,
-  Made,
-  Fetched,
-  Flushed,
-  Hears,
-  TakenBy,
-  Takes,
-  Wakes,
-  framesLayer,
-}
-use Rattle.pages.specs.Model.{Pages, blankPages, putPage, keep, drop, kept, Replies, gets, getsNone, puts, full, putsNone, putsShort, finds, findsNone, commits, undoes, pagesJudge}
+use Rattle.pages.specs.Layer.{Turn, frameOf, tg, st, fr, given, sendOf, Refills, Vacates, Stores, Hit, GetBy, PutBy, FlushOn, CallStarts, Starts, OwnBy, Told, ClearBy, Made, Flushed, Hears, framesLayer}
+use Rattle.pages.specs.Model.{Pages, putPage, keep, drop, Replies, gets, getsNone, puts, full, putsNone, putsShort, finds, findsNone, commits, undoes, pagesJudge}
 use Rattle.pages.specs.declared.frames.PageCall.{PageCall}
 use Rattle.pages.specs.declared.frames.PageCall.the-variants.{Get, Put, Vacant, Commit, Undo}
 use Rattle.pages.specs.declared.frames.PageReply.{PageReply}
@@ -74,74 +34,9 @@ use Rattle.pages.specs.declared.frames.PageReply.the-variants.{Page, Done, NoR
 use Rattle.pages.specs.declared.frames.Doing.{Doing}
 use Rattle.pages.specs.declared.frames.Doing.the-variants.{Rising, Resting, Asked, Short, Owning, Evicting, Clearing, Making, Fetching, Searching, Flushing, Committing, Undoing}
 use Rattle.pages.specs.declared.frames.Frames.{Frames}
-use Rattle.pages.proofs.Agree.{
-  not-true,
-  length-zeros,
-  not-false,
-  at-same,
-  at-other,
-  Core,
-  Cache,
-  None,
-  Only,
-  cache-but,
-  cache-fill,
-  cache-leave,
-  cache-plain,
-  cache-weak,
-  cache-wrote,
-  wrote-holds,
-  wrote-own,
-  own-full,
-  core-wrote,
-  core-put,
-  core-again,
-  core-clear,
-  blank-same,
-  Based,
-  based,
-  Down,
-  down-of,
-  cache-empty,
-  clean-same,
-  core-keep,
-  cache-keep,
-  room,
-}
-use Rattle.pages.proofs.Between.{
-  steady,
-  never-bool,
-  put-of,
-  clear-of,
-  give-of,
-  get-of,
-  Found,
-  vacant-of,
-  commit-of,
-  undo-of,
-  Of,
-  Empty,
-  Putting,
-  Sending,
-  InOwning,
-  InEvicting,
-  InClearing,
-  InMaking,
-  InFetching,
-  InSearching,
-  InFlushing,
-  InCommitting,
-  InUndoing,
-  Amid,
-  Known,
-  BegunAt,
-  Inv,
-  cache-same,
-  same-cache,
-  same-of,
-  same-tag,
-  same-flag,
-}
+use Rattle.pages.proofs.Agree.{not-true, not-false, at-same, at-other, Core, Cache, None, cache-but, cache-fill, cache-leave, cache-plain, cache-weak, cache-wrote, wrote-holds, wrote-own, own-full, core-wrote, core-put, core-again, core-clear, blank-same, based, down-of, cache-empty, clean-same, core-keep, cache-keep, room}
+use Rattle.pages.proofs.Cuts.{raised-at, taken-at, blank-down, Lost, amid-based, lost, done-at}
+use Rattle.pages.proofs.Between.{never-bool, put-of, clear-of, give-of, get-of, Found, vacant-of, commit-of, undo-of, Of, Putting, Sending, InOwning, InEvicting, InClearing, InMaking, InFetching, InSearching, InFlushing, InCommitting, InUndoing, Amid, Known, BegunAt, Inv, cache-same, same-cache, same-of, same-tag, same-flag}
 
 -- ON A DEVICE OF SO MANY SECTORS
 module _ (size : ℕ) (sized : Sized size) where
@@ -533,116 +428,17 @@ module _ (size : ℕ) (sized : Sized size) where
     hear-at Committing d s u r h y q = hear-committing d s u r h y q
     hear-at Undoing d s u r h y q = hear-undoing d s u r h y q
 
-  -- COMING UP: nothing is asked
-  raised-at : (a b : Frames) (x : Turn) (s : Held) (t : Pages) → a .doing ≡ Rising → Empty P S a → Down P s t → Starts (a .doing) a x b → Inv P S (up framesLayer x b s) t
-  raised-at a b x s t e n h q =
-      let y : Goes a x Resting (next.Give Done) b = subst (λ d. Starts d a x b) e q in
-      let o : Of P S b s t = same-of P S a b s t (y .same) (record { core = h .core; cache = cache-empty P (tg a) (st a) (fr a) s t (n .none) (n .clean) h }) in
-      rw (y .turn) o
-
-  taken-at : (c : PageCall) (v : List ℕ) (b : Frames) → TakenBy c v b → BegunAt P S (b .doing) (and c v) b
-  taken-at (Get p) v b e = subst (λ d. BegunAt P S d (and (Get p) v) b) (sym e) (refl, tt)
-  taken-at (Put p) v b (inl e) = subst (λ d. BegunAt P S d (and (Put p) v) b) (sym (e .1)) (refl, (e .0, e .2))
-  taken-at (Put p) v b (inr e) = subst (λ d. BegunAt P S d (and (Put p) v) b) (sym (e .1)) (p, refl, e .0)
-  taken-at (Vacant p) v b e = subst (λ d. BegunAt P S d (and (Vacant p) v) b) (sym e) (refl, tt)
-  taken-at Commit v b e = subst (λ d. BegunAt P S d (and Commit v) b) (sym e) (refl, tt)
-  taken-at Undo v b e = subst (λ d. BegunAt P S d (and Undo v) b) (sym e) (refl, tt)
-
-  -- WHAT A CUT LEAVES
-  module _ (c : With PageCall) (us : List (With Never)) (a : Frames) (d : With Call) (s : Held) (t : Pages) where
-    amid-based : (e : Doing) → Amid P S e c d a s t → Based P s t
-    amid-based Rising h = absurd h
-    amid-based Resting h = absurd h
-    amid-based (Asked e) h = absurd h
-    amid-based Short h = absurd h
-    amid-based (Owning p) h = based P s t (h .of .core)
-    amid-based (Evicting p) h = record { base = h .core .base; live = h .core .live; longBase = h .core .longBase }
-    amid-based (Clearing p) h = based P s t (h .of .core)
-    amid-based (Making p) h = based P s t (h .of .core)
-    amid-based (Fetching p) h = based P s t (h .of .core)
-    amid-based Searching h = based P s t (h .of .core)
-    amid-based (Flushing i) h = based P s t (h .of .core)
-    amid-based Committing h = based P s t (h .of .core)
-    amid-based Undoing h = based P s t (h .core)
-
-    Lost : Held → Type 0
-    Lost u = Cut (pagerJudge size) (pagesJudge size) framesLayer (Inv P S) c us u t
-
-    lost : (u : Held) → Based P u t → Lost u
-    unfolding Lost
-    lost u h = inl (begun-none (pagesJudge size) c t us, down-of P u t h)
-
-    -- a call below that is no commit was done
-    kept-by : (k : Call) (u : Held) (r : With Reply) → d .it ≡ k → (k ≡ call.Commit → ⊥) → Based P s t → low.Replies P S d s r u → Lost u
-    kept-by k u r e n h y = elim (steady P S d s r u y) [
-      | inl f ↦ absurd (n (sym e ∙ f))
-      | inr f ↦ lost u (record { base = λ p l. ap (λ g. g p) (f .0) ∙ h .base p l; live = λ p l. ap (λ g. g p) (f .1) ∙ h .live p l; longBase = h .longBase })
-    ]
-
-    no-put : (p : ℕ) → call.Put p ≡ call.Commit → ⊥
-    no-put p e = let z : _≡_ {A = ℕ} 0 1 = cc in omega arith
-
-    no-give : (p : ℕ) → call.Give p ≡ call.Commit → ⊥
-    no-give p e = let z : _≡_ {A = ℕ} 0 1 = cc in omega arith
-
-    no-get : (p : ℕ) → call.Get p ≡ call.Commit → ⊥
-    no-get p e = let z : _≡_ {A = ℕ} 0 1 = cc in omega arith
-
-    no-vacant : (p : ℕ) → call.Vacant p ≡ call.Commit → ⊥
-    no-vacant p e = let z : _≡_ {A = ℕ} 0 1 = cc in omega arith
-
-    no-undo : call.Undo ≡ call.Commit → ⊥
-    no-undo e = let z : _≡_ {A = ℕ} 0 1 = cc in omega arith
-
-    done-at : (e : Doing) (u : Held) (r : With Reply) → Amid P S e c d a s t → low.Replies P S d s r u → Lost u
-    unfolding Lost
-    done-at Rising u r h y = absurd h
-    done-at Resting u r h y = absurd h
-    done-at (Asked e) u r h y = absurd h
-    done-at Short u r h y = absurd h
-    done-at (Owning p) u r h y = kept-by (call.Give p) u r (h .call) (no-give p) (amid-based (Owning p) h) y
-    done-at (Evicting p) u r h y = kept-by (call.Put (tg a (frameOf p) - 1)) u r (h .sending .call) (no-put (tg a (frameOf p) - 1)) (amid-based (Evicting p) h) y
-    done-at (Clearing p) u r h y = kept-by (call.Put p) u r (h .call) (no-put p) (amid-based (Clearing p) h) y
-    done-at (Making p) u r h y = kept-by (call.Put (tg a (frameOf p) - 1)) u r (h .sending .call) (no-put (tg a (frameOf p) - 1)) (amid-based (Making p) h) y
-    done-at (Fetching p) u r h y = kept-by (call.Get p) u r (h .call) (no-get p) (amid-based (Fetching p) h) y
-    done-at Searching u r h y = kept-by (call.Vacant (h .page)) u r (h .call) (no-vacant (h .page)) (amid-based Searching h) y
-    done-at (Flushing i) u r h y = kept-by (call.Put (tg a i - 1)) u r (h .sending .call) (no-put (tg a i - 1)) (amid-based (Flushing i) h) y
-    done-at Committing u r h y =
-        let (e, k) = commit-of P S (d .bytes) s r u (subst (λ k. low.Replies P S (and k (d .bytes)) s r u) (h .call) y) in
-        let o = core-keep P s t (h .of .core) (clean-same P (tg a) (st a) (fr a) s t (h .clean) (h .of .cache)) in
-        inr (
-          [],
-          and Done [],
-          keep t,
-          subst (λ z. Replies size (and z (c .bytes)) t (and Done []) (keep t)) (sym (h .commit)) (commits (c .bytes) [] t),
-          subst (λ v. Down P (undone v) (drop (keep t))) (sym k) (down-of P (committed s) (keep t) (based P (committed s) (keep t) o)),
-        )
-    done-at Undoing u r h y = kept-by call.Undo u r (h .call) no-undo (amid-based Undoing h) y
-
-  blank-down : Down P (pagerJudge size .start) blankPages
-  blank-down = record {
-    core = record {
-      base = λ p l. refl;
-      live = λ p l. sym (ap not (blank-zeros 4096));
-      has = λ p l. sym (ap not (blank-zeros 4096));
-      given = λ p l. refl;
-      long = λ p l. length-zeros 4096;
-      longBase = λ p l. length-zeros 4096;
-    };
-    same = λ p l. refl;
-  }
-
   pub stands : StandingAbove (pagerJudge size) (pagesJudge size) framesLayer size
   unfolding Leads Lost
   stands =
       record {
         Inv = Inv P S;
-        start = blank-down;
+        start = blank-down size;
         wakes = λ a s t h q. (q .doing, record { none = q .none; clean = q .clean }, h);
         rose = λ a s t h. h;
-        raises = λ a x b s t h q. raised-at a b x s t (h .0) (h .1) (h .2) q;
+        raises = λ a x b s t h q. raised-at size a b x s t (h .0) (h .1) (h .2) q;
         liftsOn = λ a c vs r x b s u t h y q. absurd h;
-        takes = λ a c b s t h q. (taken-at (c .it) (c .bytes) b (q .taken), same-of P S a b s t (q .same) h);
+        takes = λ a c b s t h q. (taken-at size (c .it) (c .bytes) b (q .taken), same-of P S a b s t (q .same) h);
         begins = λ c us a x b s t h q. start-at c us a b x t (a .doing) s (h .0) (h .1) q;
         goes = λ c us a d vs r x b s u t h y q. hear-at c us a b x t (a .doing) d s u r h y q;
         belowCut = λ a s t h. down-of P s t (based P s t (h .2 .core));
@@ -651,6 +447,6 @@ module _ (size : ℕ) (sized : Sized size) where
         liftingDone = λ a c vs r s u t h y. absurd h;
         restCut = λ a s t h. down-of P s t (based P s t (h .core));
         begunCut = λ c us a s t h. inl (begun-none (pagesJudge size) c t us, down-of P s t (based P s t (h .1 .core)));
-        midstLost = λ c us a d s t h. lost c us a d s t s (amid-based c us a d s t (a .doing) h);
-        midstDone = λ c us a d vs r s u t h y. done-at c us a d s t (a .doing) u r h y;
+        midstLost = λ c us a d s t h. lost size c us a d s t s (amid-based size c us a d s t (a .doing) h);
+        midstDone = λ c us a d vs r s u t h y. done-at size c us a d s t (a .doing) u r h y;
       }

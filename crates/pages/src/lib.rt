@@ -6,3 +6,11 @@
 // A page is given its slot when it is put, so that writing it back never wants room. Page p has the one frame p modulo `FRAMES`.
 // It stands on `pager` as a layer of `device`, and sees no device itself.
 pub mod frames;
+
+pub use frames::FRAMES;
+pub use frames::Frames;
+pub use frames::PageCall;
+pub use frames::PageReply;
+pub use frames::work::FramesLayer;
+pub use frames::work::open;
+pub use frames::work::room_stands;

@@ -1,16 +1,15 @@
 -- Pages of eight sectors: what they hold depends on the sectors of their slot, and how they are written and read sector by sector.
-use mathlib.Core.Path.{_≡_, refl, sym, _∙_, ap, subst}
-use mathlib.Core.Bool.{Bool, true, false, cond, _&&_}
+use mathlib.Core.Path.{_≡_, refl, sym, _∙_, ap}
+use mathlib.Core.Bool.{true}
 use mathlib.Core.List.{List, [], _∷_, _++_}
 use Prim.Native.Nat.{ℕ, zero, suc, _+_, _-_, _*_, _<_, _≤_}
 use native.Mathlib.Omega.{arith}
-use lib.Dec.{eqb}
-use lib.ListN.{length, take, drop, getD, replicate}
+use lib.ListN.{take, drop, getD, replicate}
 use lib.Seq.{take-add}
-use borrow.Author.Tests.{ne-eqb, eqb-true, eqb-false}
+use borrow.Author.Tests.{ne-eqb}
 use Rattle.device.specs.Device.{Device, zeros, latest, shown, written}
 use Rattle.device.proofs.Sectors.{shown-written, since-other}
-use Rattle.shadow.specs.Layout.{slotAt, blankPage, blank, gather, pageIn}
+use Rattle.shadow.specs.Layout.{slotAt, blank, gather, pageIn}
 
 pub shown-other : (x y : ℕ) (v : List ℕ) (d : Device) → (y ≡ x → ⊥) → shown (written x v d) y ≡ shown d y
 shown-other x y v d h = ap (latest (d .kept y)) (since-other x y v d (ne-eqb y x h))

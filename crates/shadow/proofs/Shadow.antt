@@ -1,16 +1,15 @@
 -- The committed pages, the present ones, and what writes, syncs and cuts do to them; maps are functions here.
 use mathlib.Core.Path.{_≡_, refl, sym, _∙_, ap, subst}
-use mathlib.Core.Logic.{_⊎_, inl, inr}
+use mathlib.Core.Logic.{inl, inr}
 use mathlib.Core.Bool.{Bool, true, false, cond}
-use mathlib.Core.List.{List, [], _∷_}
-use Prim.Native.Nat.{ℕ, zero, suc, _+_, _-_, _*_, _/_, _%_, _<_, _≤_}
+use mathlib.Core.List.{List}
+use Prim.Native.Nat.{ℕ, _+_, _-_, _*_, _/_, _%_, _<_, _≤_}
 use native.Mathlib.Omega.{arith}
 use lib.Dec.{eqb, leb}
-use lib.ListN.{getD}
 use borrow.Author.Tests.{ne-eqb, eqb-true, eqb-false}
 use Rattle.std.proofs.shelf.Tests.{le-leb, leb-true, leb-false}
-use Rattle.device.specs.Device.{Device, zeros, latest, shown, written, synced, AfterCut}
-use Rattle.device.proofs.Sectors.{Calm, Quiet, shown-calm, shown-written, since-other, since-same, cut-calm, cut-one}
+use Rattle.device.specs.Device.{Device, shown, written, synced, AfterCut}
+use Rattle.device.proofs.Sectors.{Calm, shown-calm, shown-written, since-other, cut-calm}
 use Rattle.shadow.specs.Layout.{other, areaAt, slotAt, areaIn, rawIn, entryIn, blankPage, pageIn, updated, Free}
 use Rattle.shadow.proofs.Pages.{shown-other, page-same, slot-apart}
 

@@ -18,12 +18,12 @@ use device::Layer;
 use device::Never;
 use device::Next;
 use device::Over;
+use pager::Call;
+use pager::Pager;
+use pager::PagerStore;
+use pager::Reply;
 use pager::leaves::copy;
 use pager::leaves::is_blank;
-use pager::state::Call;
-use pager::state::Pager;
-use pager::state::Reply;
-use pager::state::work::PagerStore;
 use std::alloc::AllocError;
 use std::alloc::Global;
 

@@ -1,9 +1,9 @@
-use mathlib.Core.Path.{_≡_, _∙_, refl, sym, ap, subst}
+use mathlib.Core.Path.{_∙_, refl, ap}
 use mathlib.Core.List.{List}
-use Prim.Native.Nat.{ℕ, _+_, _*_, _<_}
+use Prim.Native.Nat.{ℕ, _+_, _*_}
 use native.Mathlib.Omega.{arith}
 use lib.ListN.{getD, length}
-use Rattle.shadow.specs.Layout.{rawIn, put}
+use Rattle.shadow.specs.Layout.{rawIn}
 use Rattle.pager.specs.Digits.{be}
 use Rattle.pager.proofs.Bytes.{length-put, length-be}
 use Rattle.pager.proofs.Turns.{raw-more}

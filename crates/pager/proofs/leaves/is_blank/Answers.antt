@@ -1,4 +1,4 @@
-use mathlib.Core.Path.{_≡_, refl, sym, ap, _∙_}
+use mathlib.Core.Path.{sym, _∙_}
 use native.Mathlib.Omega.{arith}
 use Rattle.pager.proofs.Turns.{blank-more, blank-not, blank-end}
 use Rattle.pager.proofs.leaves.is_blank.Needs as need

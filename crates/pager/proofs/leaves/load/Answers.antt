@@ -1,7 +1,6 @@
-use mathlib.Core.Path.{_∙_, refl}
+use mathlib.Core.Path.{_∙_}
 use Prim.Native.Nat.{_+_, _*_}
 use native.Mathlib.Omega.{arith}
-use lib.ListN.{getD, set}
 use lib.Seq.{getD-set-other}
 use Rattle.shadow.specs.Layout.{entryIn}
 use Rattle.pager.proofs.Turns.{load-more}

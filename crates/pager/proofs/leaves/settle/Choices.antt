@@ -1,7 +1,7 @@
 -- What the flags so far say is done.
 use mathlib.Core.Path.{_≡_}
 use mathlib.Core.Bool.{false, cond}
-use Prim.Native.Nat.{ℕ, _*_, _/_, _<_, _≤_}
+use Prim.Native.Nat.{ℕ, _/_, _<_, _≤_}
 use lib.ListN.{getD}
 use Rattle.pager.proofs.leaves.settle.Given as given
 

@@ -1,5 +1,5 @@
 -- Where an allocation fails, nothing is said of a pager.
-use mathlib.Core.Path.{_≡_, refl}
+use mathlib.Core.Path.{refl}
 use native.Mathlib.Omega.{arith}
 use borrow.Author.Needs.{needs}
 use Rattle.std.proofs.shelf.Results.{made-from-err}

@@ -1,4 +1,3 @@
-use mathlib.Core.Path.{_≡_, refl, ap, _∙_}
 use Rattle.std.proofs.shelf.Results.{made-from-err}
 use Rattle.pages.proofs.Ends.{pages-whole, takings}
 use Rattle.pages.proofs.frames.work.open.Needs as need
