@@ -18,6 +18,7 @@ use pages::PageCall;
 use pages::PageReply;
 use std::alloc::AllocError;
 use std::alloc::Global;
+use std::env;
 use std::io;
 
 // What was done, and how often an answer was not the model's.
@@ -223,18 +224,37 @@ fn cost(heap: Global, puts: u64, pages: u64) -> Result<Asks, AllocError> {
     Ok(drive::both(all, asks))
 }
 
-fn main(rt: LibcRuntime) -> io::Result<()> {
+// The same play from four seeds.
+fn rehearse_all(rt: &LibcRuntime, rounds: u32) -> io::Result<()> {
     for seed in 1..5u64 {
-        rehearse(&rt, seed, 1500)?;
+        rehearse(rt, seed, rounds)?;
     }
+    Ok(())
+}
+
+fn say_costs(rt: &LibcRuntime) -> io::Result<()> {
     let small = drive::opening(rt.alloc(), 4096)?;
-    say(&rt, "coming up at 2 MiB", small)?;
+    say(rt, "coming up at 2 MiB", small)?;
     let large = drive::opening(rt.alloc(), 2097152)?;
-    say(&rt, "coming up at 1 GiB", large)?;
+    say(rt, "coming up at 1 GiB", large)?;
     let one = cost(rt.alloc(), 1, 1)?;
-    say(&rt, "1 page put and committed", one)?;
+    say(rt, "1 page put and committed", one)?;
     let hundred = cost(rt.alloc(), 100, 100)?;
-    say(&rt, "100 pages put and committed", hundred)?;
+    say(rt, "100 pages put and committed", hundred)?;
     let thousand = cost(rt.alloc(), 1000, 10)?;
-    say(&rt, "1000 puts of 10 pages, committed", thousand)
+    say(rt, "1000 puts of 10 pages, committed", thousand)
+}
+
+// With a number: so many rounds from each seed, and nothing else.
+fn main(rt: LibcRuntime) -> io::Result<()> {
+    let mut args = env::args(&rt)?;
+    let _ = args.next();
+    let Some(word) = args.next() else {
+        rehearse_all(&rt, 1500)?;
+        return say_costs(&rt);
+    };
+    match word.as_str().parse::<u32>() {
+        Ok(rounds) => rehearse_all(&rt, rounds),
+        Err(_) => Err(io::Error::from(io::ErrorKind::InvalidInput)),
+    }
 }

@@ -22,10 +22,10 @@ use device::Ask;
 use device::Over;
 use device::OverStore;
 use device::Store;
-use pager::state::Pager;
-use pager::state::work::PagerStore;
-use pages::frames::Frames;
-use pages::frames::work::FramesLayer;
+use pager::Pager;
+use pager::PagerStore;
+use pages::Frames;
+use pages::FramesLayer;
 use std::alloc::AllocError;
 use std::alloc::Global;
 
@@ -89,7 +89,7 @@ impl Engine {
         if size < 4096 || size > 1099511627776 {
             return Err(Unopened::Size);
         }
-        let Ok(pages) = pages::frames::work::open(heap, size) else {
+        let Ok(pages) = pages::open(heap, size) else {
             return Err(Unopened::Memory);
         };
         let Ok(session) = Session::new(heap) else {
