@@ -7,8 +7,11 @@ use std::io::Read;
 use std::io::Write;
 use text::Nodes;
 use text::Refusal;
-use text::print;
 use text::read;
+
+mod printer;
+
+use printer::print;
 
 fn line_len(bytes: &[u8]) -> usize
     ensures { λ r. ⌜ r ≤ length (now (bytes .entry)) ⌝ }

@@ -1,4 +1,4 @@
-// The statements of the language as texts: read into nodes, and printed.
+// The statements of the language, read from their texts into nodes.
 //
 // `read` gives a statement exactly where the grammar of `meaning` derives one from the bytes, and that one; it stands for it in the nodes,
 // which are made once and are enough for every text of 4,096 bytes. It rests on `grammar`, which shows that a text is at most one
@@ -8,7 +8,6 @@ ghost use Rattle.text.specs.Found.{ReadText};
 mod exprs;
 mod nodes;
 mod parts;
-mod printer;
 mod sources;
 mod statements;
 mod tokens;
@@ -22,10 +21,11 @@ pub use nodes::Question;
 pub use nodes::Span;
 pub use nodes::Statement;
 pub use parts::Refusal;
-pub use printer::print;
 use statements::statement;
 use tokens::Tok;
 use tokens::next;
+pub use words::bytes_of;
+pub use words::small_of;
 
 // The statement that a text is: refused as unread (1) where it is none, and as too long (10) above 4,096 bytes.
 pub fn read(nodes: &mut Nodes, text: &[u8]) -> Result<Statement, Refusal>

@@ -1,5 +1,5 @@
 use Prim.Native.Nat.{ℕ, _+_, _*_}
-use Rattle.text.proofs.printer.+names.Given as given
+use Rattle.reading.proofs.printer.+names.Given as given
 
 abbrev pub μ-names : given.MeasureT-names
 μ-names l = l .left

@@ -1,15 +1,15 @@
 // A read statement printed: keywords small, one blank between words, every compound expression in brackets.
 //
 // The number left falls with each call, so that it ends on any nodes; a read statement nests less deep than it has nodes.
-use crate::nodes::Fold;
-use crate::nodes::Node;
-use crate::nodes::Nodes;
-use crate::nodes::Op;
-use crate::nodes::Span;
-use crate::nodes::Statement;
-use crate::words::bytes_of;
-use crate::words::small_of;
 use std::alloc::AllocError;
+use text::Fold;
+use text::Node;
+use text::Nodes;
+use text::Op;
+use text::Span;
+use text::Statement;
+use text::bytes_of;
+use text::small_of;
 
 fn say(out: &mut Vec<u8>, bytes: &[u8]) -> Result<(), AllocError> {
     out.extend_from_slice(bytes)

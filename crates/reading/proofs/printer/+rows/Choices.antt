@@ -1,5 +1,5 @@
 use Prim.Native.Nat.{ℕ, _+_, _*_}
-use Rattle.text.proofs.printer.+rows.Given as given
+use Rattle.reading.proofs.printer.+rows.Given as given
 
 abbrev pub μ-rows : given.MeasureT-rows
 μ-rows l = l .left

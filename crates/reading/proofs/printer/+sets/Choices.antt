@@ -1,5 +1,5 @@
 use Prim.Native.Nat.{ℕ, _+_, _*_}
-use Rattle.text.proofs.printer.+sets.Given as given
+use Rattle.reading.proofs.printer.+sets.Given as given
 
 abbrev pub μ-sets : given.MeasureT-sets
 μ-sets l = l .left

@@ -1,5 +1,5 @@
 use Prim.Native.Nat.{ℕ, _+_, _*_}
-use Rattle.text.proofs.printer.+both+condition+expr+exprs+keys+query+query_within+within.Given as given
+use Rattle.reading.proofs.printer.+both+condition+expr+exprs+keys+query+query_within+within.Given as given
 
 abbrev pub μ-both : given.MeasureT-both
 μ-both l = 4 * l .left + 2

@@ -1,5 +1,5 @@
 use Prim.Native.Nat.{ℕ, _+_, _*_}
-use Rattle.text.proofs.printer.+sources.Given as given
+use Rattle.reading.proofs.printer.+sources.Given as given
 
 abbrev pub μ-sources : given.MeasureT-sources
 μ-sources l = l .left
