@@ -2,7 +2,7 @@
 use mathlib.Core.Path.{_≡_, refl, sym, ap, _∙_, subst}
 use mathlib.Core.Logic.{_⊎_, inl, inr, _≢_}
 use mathlib.Core.Bool.{Bool, true, false, cond}
-use mathlib.Core.List.{List, [], _∷_, _++_}
+use mathlib.Core.List.{List, [], _∷_, _++_, append-nil, append-assoc}
 use Prim.Native.Nat.{ℕ, zero, suc, _+_, _-_, _<_, _≤_}
 use native.Mathlib.Omega.{arith}
 use native.Mathlib.Numerals.{add-one}
@@ -14,9 +14,11 @@ use Rattle.tree.specs.Entries.{Entry}
 use Rattle.tree.specs.Pages.{Page, weigh}
 use Rattle.tree.specs.Bytes.{taken}
 use Rattle.bytes.proofs.Order.{clash}
+use Rattle.tree.proofs.Joins.{weigh-append}
+use Rattle.node.proofs.Places.{start-least}
 use Rattle.node.proofs.Weights.{weighs}
-use Rattle.node.specs.Node.{countIn, entriesTo, entriesIn, Formed, Cleared, Pushed}
-use Rattle.node.specs.Joiner.{pagesTo, onLast, spare, joinOn}
+use Rattle.node.specs.Node.{countIn, entryAt, entriesTo, entriesFrom, entriesIn, Formed, Cleared, Pushed}
+use Rattle.node.specs.Joiner.{pagesTo, onLast, onLastAll, spare, joinOn}
 
 module _ (ps : List (List ℕ)) (n : ℕ) (x : List ℕ) (h : n < length ps) where
   pages-before : (m : ℕ) → m ≤ n → pagesTo (set ps n x) m ≡ pagesTo ps m
@@ -117,6 +119,11 @@ pub spare-none : (ps : List (List ℕ)) (len : ℕ) → len ≡ 0 → spare (pag
 unfolding spare pagesTo
 spare-none ps len e = ap (λ n. spare (pagesTo ps n)) e
 
+pub spare-some : (ps : List (List ℕ)) (len : ℕ) → 0 < spare (pagesTo ps len) → 0 < len
+unfolding spare pagesTo
+spare-some ps zero h = h
+spare-some ps (suc n) h = omega arith
+
 no-weight : weigh taken [] ≡ 0
 unfolding weigh
 no-weight = refl
@@ -140,3 +147,81 @@ module _ (ps qs rs : List Page) (e : Entry) (r : Bool) (small : taken e ≤ 4088
 
   pub joined-by : rs ≡ joinOn taken 4088 (e ∷ []) ps
   joined-by = pushed ∙ ap (λ t. cond t (onLast e qs) qs) was-pushed ∙ ap (onLast e) reserved ∙ joined-one e ps
+
+-- PUSHING ENTRIES ONE AFTER ANOTHER
+-- an entry takes its weight of what the last page has to spare
+pub spare-pushed : (ps : List (List ℕ)) (len : ℕ) (e : Entry) → 0 < len → spare (onLast e (pagesTo ps len)) ≡ spare (pagesTo ps len) - taken e
+unfolding pagesTo weigh
+spare-pushed ps zero e h = absurd (omega arith)
+spare-pushed ps (suc n) e h =
+    let q = entriesIn (getD ps n []) in
+    let a = spare-last (pagesTo ps n) q in
+    let b = ap spare (on-last e (pagesTo ps n) q) ∙ spare-last (pagesTo ps n) (q ++ (e ∷ [])) in
+    let w = weigh-append taken q (e ∷ []) in
+    omega arith
+
+-- one entry more of a part of a page
+module _ (page : List ℕ) (i to : ℕ) (h : i < to) where
+  pub from-step : entriesFrom page i (to - i) ≡ entryAt page i ∷ entriesFrom page (i + 1) (to - (i + 1))
+  unfolding entriesFrom
+  from-step = let e : to - i ≡ suc (to - (i + 1)) = omega arith in ap (entriesFrom page i) e
+
+  pub from-weighs : weigh taken (entriesFrom page i (to - i)) ≡ taken (entryAt page i) + weigh taken (entriesFrom page (i + 1) (to - (i + 1)))
+  unfolding weigh
+  from-weighs = ap (weigh taken) from-step
+
+  pub from-pushed : (ps : List Page) → onLastAll (entriesFrom page i (to - i)) ps ≡ onLastAll (entriesFrom page (i + 1) (to - (i + 1))) (onLast (entryAt page i) ps)
+  unfolding onLastAll
+  from-pushed ps = ap (λ es. onLastAll es ps) from-step
+
+pub from-done : (page : List ℕ) (i to : ℕ) (ps : List Page) → to ≤ i → onLastAll (entriesFrom page i (to - i)) ps ≡ ps
+unfolding onLastAll entriesFrom
+from-done page i to ps h = let e : to - i ≡ 0 = omega arith in ap (λ d. onLastAll (entriesFrom page i d) ps) e
+
+-- JOINING A PAGE
+on-last-all : (es : List Entry) (ps : List Page) (p : Page) → onLastAll es (ps ++ (p ∷ [])) ≡ ps ++ ((p ++ es) ∷ [])
+unfolding onLastAll
+on-last-all [] ps p = ap (λ q. ps ++ (q ∷ [])) (sym (append-nil p))
+on-last-all (e ∷ es) ps p = ap (onLastAll es) (on-last e ps p) ∙ on-last-all es ps (p ++ (e ∷ [])) ∙ ap (λ q. ps ++ (q ∷ [])) (append-assoc p (e ∷ []) es)
+
+-- pages before the last stay
+all-behind : (es : List Entry) (p : Page) (ps : List Page) → 0 < length ps → onLastAll es (p ∷ ps) ≡ p ∷ onLastAll es ps
+unfolding onLastAll onLast
+all-behind [] p ps h = refl
+all-behind (e ∷ es) p [] h = absurd (omega arith)
+all-behind (e ∷ es) p (q ∷ []) h = all-behind es p ((q ++ (e ∷ [])) ∷ []) (omega arith)
+all-behind (e ∷ es) p (q ∷ r ∷ ps) h = all-behind es p (q ∷ onLast e (r ∷ ps)) (omega arith)
+
+-- a page of its own where the last has no room, and then all its entries: that is the unit joined
+joined-all : (es : List Entry) (ps : List Page) → 0 < weigh taken es → onLastAll es (cond (ltb (spare ps) (weigh taken es)) (ps ++ ([] ∷ [])) ps) ≡ joinOn taken 4088 es ps
+unfolding spare joinOn
+joined-all es [] h = rw (lt-ltb 0 (weigh taken es) h) (on-last-all es [] [])
+joined-all es (p ∷ []) h =
+    elim (cases-lt (4088 - weigh taken p) (weigh taken es)) [
+      | inl l ↦ let full : leb (weigh taken p + weigh taken es) 4088 ≡ false = lt-leb (weigh taken p + weigh taken es) 4088 (omega arith) in rw (lt-ltb (4088 - weigh taken p) (weigh taken es) l, full) (on-last-all es (p ∷ []) [])
+      | inr l ↦ let fits : leb (weigh taken p + weigh taken es) 4088 ≡ true = le-leb (weigh taken p + weigh taken es) 4088 (omega arith) in rw (le-ltb (4088 - weigh taken p) (weigh taken es) l, fits) (on-last-all es [] p)
+    ]
+joined-all es (p ∷ q ∷ ps) h = behind (ltb (spare (q ∷ ps)) (weigh taken es)) ∙ ap (λ x. p ∷ x) (joined-all es (q ∷ ps) h)
+  where
+    behind : (t : Bool) → onLastAll es (cond t (p ∷ q ∷ (ps ++ ([] ∷ []))) (p ∷ q ∷ ps)) ≡ p ∷ onLastAll es (cond t (q ∷ (ps ++ ([] ∷ []))) (q ∷ ps))
+    behind true = all-behind es p (q ∷ (ps ++ ([] ∷ []))) (omega arith)
+    behind false = all-behind es p (q ∷ ps) (omega arith)
+
+-- a formed page with entries: they weigh something, and no more than a page holds
+module _ (page : List ℕ) (f : Formed page (countIn page)) (some : 0 < countIn page) where
+  pub weighs-some : 0 < weigh taken (entriesIn page)
+  weighs-some = let w = weighs page f in omega arith
+
+  pub weighs-fits : weigh taken (entriesIn page) ≤ 4088
+  weighs-fits = let w = weighs page f in let a = f .apart in omega (arith, start-least page (countIn page) (countIn page) f (omega arith))
+
+  -- there is a page with room for them once that was reserved, and pushing them joins them
+  module _ (ps : List Page) where
+    abbrev readied : List Page
+    readied = cond (ltb (spare ps) (weigh taken (entriesIn page))) (ps ++ ([] ∷ [])) ps
+
+    pub readied-spare : weigh taken (entriesIn page) ≤ spare readied
+    readied-spare = spare-reserved ps (weigh taken (entriesIn page)) weighs-fits
+
+    pub readied-joined : onLastAll (entriesIn page) readied ≡ joinOn taken 4088 (entriesIn page) ps
+    readied-joined = joined-all (entriesIn page) ps weighs-some

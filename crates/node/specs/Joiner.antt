@@ -30,6 +30,11 @@ onLast e [] = []
 onLast e (p ∷ []) = (p ++ (e ∷ [])) ∷ []
 onLast e (p ∷ q ∷ qs) = p ∷ onLast e (q ∷ qs)
 
+-- entries at the end of the last page, one after another
+unfoldable pub onLastAll : List Entry → List Page → List Page
+onLastAll [] ps = ps
+onLastAll (e ∷ es) ps = onLastAll es (onLast e ps)
+
 -- a unit joined to the last page where it has room, and else a page of its own
 unfoldable pub joinOn : (Entry → ℕ) → ℕ → Page → List Page → List Page
 joinOn w cap q [] = q ∷ []
@@ -52,6 +57,7 @@ pub record PushedBy (j : Joiner) (e : Entry) (r : Bool) (k : Joiner) : Type 0 wh
   pub sound : Sound k
   pub pages : pagesOf k ≡ cond r (onLast e (pagesOf j)) (pagesOf j)
   pub crowded : r ≡ false → spare (pagesOf j) < taken e
+  pub len : k .len ≡ j .len
 
 -- a page with room for so many bytes is the last one, or there was no place for one
 abbrev pub ReservedBy : Joiner → ℕ → Bool → Joiner → Type 0
@@ -61,4 +67,8 @@ ReservedBy j w false k = (j .len ≡ 24) × (k ≡ j)
 -- a unit was joined to the pages, or there was no place for it
 abbrev pub JoinedBy : Joiner → Page → Bool → Joiner → Type 0
 JoinedBy j q true k = Sound k × (pagesOf k ≡ joinOn taken 4088 q (pagesOf j))
-JoinedBy j q false k = j .len ≡ 24
+JoinedBy j q false k = (j .len ≡ 24) × (k ≡ j)
+
+-- the entries of a page from one on were pushed on the last page, if that has room for them
+abbrev pub PartPushed : Joiner → List Entry → Bool → Joiner → Type 0
+PartPushed j es r k = (0 < j .len → weigh taken es ≤ spare (pagesOf j) → (r ≡ true) × Sound k × (pagesOf k ≡ onLastAll es (pagesOf j)))

@@ -36,6 +36,11 @@ unfoldable pub entriesTo : List ℕ → ℕ → List Entry
 entriesTo page zero = []
 entriesTo page (suc n) = entriesTo page n ++ (entryAt page n ∷ [])
 
+-- d entries from the one at i on
+unfoldable pub entriesFrom : List ℕ → ℕ → ℕ → List Entry
+entriesFrom page i zero = []
+entriesFrom page i (suc d) = entryAt page i ∷ entriesFrom page (i + 1) d
+
 abbrev pub entriesIn : List ℕ → List Entry
 entriesIn page = entriesTo page (countIn page)
 

@@ -1,16 +1,20 @@
 // What is done with the pages of a joiner.
 ghost use mathlib.Core.Path.{_≡_};
 ghost use mathlib.Core.List.{[], _∷_};
-ghost use Prim.Native.Nat.{_+_, _≤_};
+ghost use Prim.Native.Nat.{_+_, _-_, _<_, _≤_};
+ghost use Rattle.node.specs.Node.{countIn, entriesFrom, entriesIn, Formed};
 ghost use lib.ListN.{length};
 ghost use Rattle.std.specs.Vec.{made};
-ghost use Rattle.node.specs.Joiner.{pagesOf, Sound, OpenedBy, PushedBy, spare, ReservedBy, JoinedBy};
+ghost use Rattle.node.specs.Joiner.{pagesOf, Sound, OpenedBy, PushedBy, spare, ReservedBy, JoinedBy, PartPushed};
 use crate::clear;
+use crate::count;
 use crate::joiner::CAPACITY;
 use crate::joiner::Joiner;
 use crate::joiner::MOST;
+use crate::key;
 use crate::push;
 use crate::used;
+use crate::value;
 use std::alloc::AllocError;
 use std::alloc::Global;
 
@@ -92,5 +96,27 @@ impl Joiner {
             return false;
         }
         self.push_on(key, value)
+    }
+
+    // Entries of a page, from one place to another, behind the last page's; false where that has no room for them.
+    fn push_part(&mut self, page: &[u8; 4096], from: usize, to: usize) -> bool
+        ensures { λ r. ⌜ (Sound (now (self .entry)) → Formed (now (page .entry)) (countIn (now (page .entry))) → from ≤ to → to ≤ countIn (now (page .entry)) → PartPushed (now (self .entry)) (entriesFrom (now (page .entry)) from (to - from)) r (now (self .exit))) ⌝ }
+    {
+        for i in from..to {
+            if !self.push_on(key(page, i), value(page, i)) {
+                return false;
+            }
+        }
+        true
+    }
+
+    // All entries of a page as one unit.
+    pub fn add_page(&mut self, page: &[u8; 4096]) -> bool
+        ensures { λ r. ⌜ (Sound (now (self .entry)) → Formed (now (page .entry)) (countIn (now (page .entry))) → 0 < countIn (now (page .entry)) → JoinedBy (now (self .entry)) (entriesIn (now (page .entry))) r (now (self .exit))) ⌝ }
+    {
+        if !self.reserve(used(page)) {
+            return false;
+        }
+        self.push_part(page, 0, count(page))
     }
 }

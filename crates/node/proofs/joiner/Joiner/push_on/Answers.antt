@@ -18,7 +18,7 @@ returns c = λ s.
     let is : c .index-mut .result .now ≡ getD ps (len - 1) [] = c .index-mut .ensures .value ∙ getD-default ps (len - 1) (c .index-mut .result .now) [] (omega arith) in
     let f = formed-page ps len (c .args .key .now) (c .args .value .now) (c .index-mut .result .now) (c .push .last .page) some there is s in
     let p = pushed-on ps len (c .args .key .now) (c .args .value .now) (c .index-mut .result .now) (c .push .last .page) some there is s (c .push .result) (c .push .ensures f) in
-    record { sound = p .formed; pages = p .pages; crowded = p .crowd }
+    record { sound = p .formed; pages = p .pages; crowded = p .crowd; len = refl }
 
 pub returns-then-len-eq0 : need.returns-then-len-eq0
-returns-then-len-eq0 c = λ s. record { sound = s; pages = refl; crowded = λ z. omega (arith, spare-none (vec-items (c .args .self .now .pages)) (c .args .self .now .len) (c .if-len-eq0 .taken)) }
+returns-then-len-eq0 c = λ s. record { sound = s; pages = refl; crowded = λ z. omega (arith, spare-none (vec-items (c .args .self .now .pages)) (c .args .self .now .len) (c .if-len-eq0 .taken)); len = refl }
