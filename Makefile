@@ -8,7 +8,7 @@ run: target/bin/tables
 	@test -e $(DEVICE) || truncate -s $(SIZE) $(DEVICE)
 	@target/bin/tables $(DEVICE)
 
-target/bin/tables:
+target/bin/tables: $(shell find crates -name '*.rt')
 	@rt check tables >/dev/null
 
 test:
