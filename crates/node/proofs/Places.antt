@@ -20,6 +20,11 @@ pub start-later : (page : List ℕ) (i : ℕ) → 0 < i → start_of page i ≡ 
 unfolding start_of
 start-later page i h = let e : eqb i 0 ≡ false = ne_eqb i 0 (λ z. omega arith) in rw e
 
+-- so a page has few entries, and each begins within it
+pub record Placed (page : List ℕ) (i : ℕ) : Type 0 where
+  pub few : i < 2045
+  pub begins : start_of page i < 4095
+
 pub start-least : (page : List ℕ) (n i : ℕ) → Formed page n → i ≤ n → 8 + 2 * i ≤ start_of page i
 start-least page n i h l =
     let e : 0 + i ≡ i = omega arith in
@@ -32,13 +37,12 @@ start-most page n i h l =
     let a : start_of page i + 2 * (n - i) ≤ start_of page n = subst (λ j. start_of page i + 2 * (n - i) ≤ start_of page j) e (starts-rise page n h i (n - i) (omega arith)) in
     omega (arith, h.apart)
 
--- so a page has few entries
-pub few : (page : List ℕ) (n i : ℕ) → Formed page n → i < n → i < 2045
-few page n i h l =
+pub placed : (page : List ℕ) (n i : ℕ) → Formed page n → i < n → Placed page i
+placed page n i h l =
     let a = start-least page n i h (omega arith) in
     let b = start-most page n (i + 1) h (omega arith) in
     let s = h.in_order i l in
-    omega (arith, a, b, s)
+    record { few = omega (arith, a, b, s); begins = omega (arith, a, b, s) }
 
 -- a value, from where its entry begins and ends
 pub value-is : (page r : List ℕ) (i start len end from rest : ℕ) → start ≡ start_of page i → len ≡ key_len page i → end ≡ start_of page (i + 1) → from ≡ start + 2 + len → rest ≡ end - from → r ≡ part page from rest → r ≡ value_at page i

@@ -33,7 +33,7 @@ length-put_in xs ys a = go (cases_lt (length xs) (a + length ys))
     go (inr h) = ap length (put_in-fits xs ys a h) ∙ length-put xs ys a h
 
 -- one write right behind another is one write
-put-put : (xs ys zs : List ℕ) (a b : ℕ) → b ≡ a + length ys → a + length ys ≤ length xs → put (put xs a ys) b zs ≡ put xs a (ys ++ zs)
+pub put-put : (xs ys zs : List ℕ) (a b : ℕ) → b ≡ a + length ys → a + length ys ≤ length xs → put (put xs a ys) b zs ≡ put xs a (ys ++ zs)
 unfolding put
 put-put xs ys zs a b e h = same_lists _ _ (search (rules, places)) (λ k d l. grind (arith, places))
 
@@ -165,3 +165,16 @@ blank-not l i h e = ap blank (drop_more l i 0 h) ∙ blank-first-not (get_or l i
 
 pub blank-end : (l : List ℕ) (i : ℕ) → length l ≤ i → blank (drop i l) ≡ true
 blank-end l i h = ap blank (drop_all i l h) ∙ blank-nil
+
+pub part-behind : (xs ys : List ℕ) (a b n : ℕ) → a + length ys ≤ b → a + length ys ≤ length xs → part (put xs a ys) b n ≡ part xs b n
+unfolding put
+part-behind xs ys a b n e h = same_lists _ _ (search (rules, places)) (λ k d l. grind (arith, places))
+
+-- two bytes are their number, and back
+pub pair-of : (n : ℕ) → n / 256 * 256 + n % 256 ≡ n
+pair-of n = omega arith
+
+pub zeros-at : (n k : ℕ) → ◌≡◌ {A = ℕ} (get_or (replicate n 0) k 0) 0
+zeros-at zero k = refl
+zeros-at (suc n) zero = refl
+zeros-at (suc n) (suc k) = zeros-at n k

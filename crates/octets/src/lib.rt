@@ -1,15 +1,15 @@
-// Bytes in lent memory: parts of them, writes to a part, numbers in them, and their order. Every function takes whatever it is given: a part
-// ends where the bytes end, a single byte past the end is 0, and a write that does not fit in is not done. A write is an equation with `put`,
-// so that what it leaves unchanged is known. A number has its highest byte first.
+// Bytes in lent memory: parts of them, writes to a part, numbers in them, and their order. A part ends where the
+// bytes end, a single byte past the end is 0; `put_bytes`, `put_u16` and `put_u64` write nothing where there is no room, while `copy_in` and
+// `put_pair` ask for room. A write is an equation with `put`, so that what it leaves unchanged is known. A number has its highest byte first.
 //
 // All that is true of bytes in general stands here, for all crates above: what is meant in specs/Parts.antt and specs/Numbers.antt; the laws of
 // parts and writes in proofs/Parts.antt, of numbers as bytes in proofs/Numbers.antt, of the order in proofs/Order.antt, and in
 // proofs/Compared.antt that numbers as bytes are in the order of numbers.
-ghost use Rattle.std.specs.Prelude.{◌≡◌, ◌<◌, length, replicate, slice_index};
+ghost use Rattle.std.specs.Prelude.{◌≡◌, ◌+◌, ◌<◌, ◌≤◌, length, replicate, slice_index};
 ghost use Rattle.std.specs.Int.Digits.{number_from_digits};
 ghost use Rattle.meaning.specs.Value.{less_bytes};
 ghost use Rattle.octets.specs.Numbers.{be};
-ghost use Rattle.octets.specs.Parts.{part, put_in, blank, pair, pair_of};
+ghost use Rattle.octets.specs.Parts.{part, put, put_in, blank, pair, pair_of};
 
 // At most so many bytes from a place on; fewer where the slice ends.
 pub fn part_of(bytes: &[u8], at: usize, len: usize) -> &[u8]
@@ -33,6 +33,17 @@ pub fn byte_at(bytes: &[u8], at: usize) -> u8
 }
 
 // The number in two bytes.
+pub fn pair_at(bytes: &[u8], at: usize) -> usize
+    requires { at + 1 < length bytes.now }
+    ensures is { result ≡ pair bytes.now at }
+    ensures small { result < 65536 }
+{
+    let high = usize::from(bytes[at]);
+    let low = usize::from(bytes[at + 1]);
+    256 * high + low
+}
+
+// The number in two bytes.
 pub fn get_u16(bytes: &[u8], at: usize) -> u16
     ensures { result ≡ pair bytes.now at }
 {
@@ -52,8 +63,17 @@ pub fn get_u64(bytes: &[u8], at: usize) -> u64
     u64::from_be_bytes(digits)
 }
 
-// Bytes go to their place, if they fit in.
+// Bytes go to their place.
 pub fn copy_in(out: &mut [u8], at: usize, bytes: &[u8])
+    requires { at + length bytes.now ≤ length out.old }
+    ensures { out.new ≡ put out.old at bytes.now }
+{
+    let len = bytes.len();
+    out[at..at + len].copy_from_slice(bytes);
+}
+
+// Bytes go to their place, if they fit in.
+pub fn put_bytes(out: &mut [u8], at: usize, bytes: &[u8])
     ensures { out.new ≡ put_in out.old at bytes.now }
 {
     let len = bytes.len();
@@ -63,19 +83,27 @@ pub fn copy_in(out: &mut [u8], at: usize, bytes: &[u8])
     out[at..at + len].copy_from_slice(bytes);
 }
 
+pub fn put_pair(out: &mut [u8], at: usize, number: usize)
+    requires { (at + 2 ≤ length out.old) × (number < 65536) }
+    ensures { out.new ≡ put out.old at (pair_of number) }
+{
+    let bytes = [(number / 256) as u8, (number % 256) as u8];
+    copy_in(out, at, &bytes);
+}
+
 // A number goes to its place in two bytes, if they fit in.
 pub fn put_u16(out: &mut [u8], at: usize, number: u16)
     ensures { out.new ≡ put_in out.old at (pair_of number) }
 {
     let bytes = [(number / 256) as u8, (number % 256) as u8];
-    copy_in(out, at, &bytes);
+    put_bytes(out, at, &bytes);
 }
 
 // A number goes to its place in eight bytes, if they fit in.
 pub fn put_u64(out: &mut [u8], at: usize, number: u64)
     ensures { out.new ≡ put_in out.old at (be 8 number) }
 {
-    copy_in(out, at, &number.to_be_bytes());
+    put_bytes(out, at, &number.to_be_bytes());
 }
 
 // Zeros all over.

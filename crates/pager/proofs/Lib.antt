@@ -1,3 +1,4 @@
+pub mod Bytes
 pub mod Turns
 pub mod Invariant
 pub mod Works

@@ -1,5 +1,6 @@
 -- The pager keeps to its model, stays within the device and ends.
-use Rattle.std.proofs.Common.{◌≡◌, ℕ, ◌+◌, ◌-◌, ◌*◌, ◌%◌, ◌<◌, ◌≤◌, Bool, false, cond, eqb, leb, ◌⊎◌, List, [], drop, sym, refl, ap, ◌∙◌, subst, inl, inr, arith, get_or-drop}
+use Rattle.std.proofs.Common.{◌≡◌, ℕ, zero, suc, ◌+◌, ◌-◌, ◌*◌, ◌%◌, ◌<◌, ◌≤◌, Bool, false, cond, eqb, leb, ◌⊎◌, List, [], ◌∷◌, get_or, take, drop, sym, refl, ap, ◌∙◌, subst, inl, inr, arith, get_or-drop}
+use Rattle.std.specs.Int.Digits.{number_from_digits_after}
 use Rattle.std.proofs.lemmas.Bool.{le-leb}
 use Rattle.device.specs.Device.{Device, blank_device, zeros, AfterCut, With, and, Sector, Sized}
 use Rattle.device.specs.Runs.{Asks, works, waits, Fair}
@@ -9,9 +10,7 @@ use Rattle.device.proofs.Sectors.{cut-one, begun-none}
 use Rattle.device.proofs.Standing.{Standing, Then, keeps}
 use Rattle.device.proofs.Ending.{Steady, within_by, ends_by}
 use Rattle.device.proofs.Ending as ending
-use Rattle.octets.specs.Parts.{part}
-use Rattle.octets.proofs.Numbers.{number-zeros, take-zeros}
-use Rattle.shadow.specs.Layout.{pages, map_sectors, slots, other, area_at, area_in, raw_in, entry_in}
+use Rattle.shadow.specs.Layout.{pages, map_sectors, slots, other, area_at, area_in, raw_in, entry_in, part}
 use Rattle.shadow.proofs.Pages.{zeros-at}
 use Rattle.shadow.proofs.Shadow.{area-low, body-cut}
 use Rattle.pager.specs.Steps.{Asking, bs, ws, held, CallAt, PhaseAt, Stepped, Taken}
@@ -28,6 +27,17 @@ use Rattle.pager.proofs.Works.{Works, work}
 use Rattle.pager.proofs.Rises.{Climbs, climb}
 
 -- a blank map sector has blank entries
+number-zeros : (n : ℕ) (l : List ℕ) → ((i : ℕ) → get_or l i 0 ≡ 0) → n ≡ 0 → number_from_digits_after 256 n l ≡ 0
+number-zeros n [] h e = e
+number-zeros n (x ∷ l) h e = let z : x ≡ 0 = h 0 in number-zeros (n * 256 + x) l (λ i. h (suc i)) (omega arith)
+
+take-zeros : (n : ℕ) (l : List ℕ) → ((i : ℕ) → get_or l i 0 ≡ 0) → (i : ℕ) → get_or (take n l) i 0 ≡ 0
+take-zeros zero [] h i = refl
+take-zeros zero (x ∷ l) h i = refl
+take-zeros (suc n) [] h i = refl
+take-zeros (suc n) (x ∷ l) h zero = h 0
+take-zeros (suc n) (x ∷ l) h (suc i) = take-zeros n l (λ j. h (suc j)) i
+
 zero-entry : (S k : ℕ) → entry_in S (zeros 512) k ≡ 0
 zero-entry S k =
     let e : raw_in (zeros 512) k ≡ 0 = number-zeros 0 (part (zeros 512) (8 * k) 8) (take-zeros 8 (drop (8 * k) (zeros 512)) (λ i. get_or-drop (8 * k) (zeros 512) i 0 ∙ zeros-at 512 (8 * k + i))) refl in

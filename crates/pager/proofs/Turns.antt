@@ -1,12 +1,11 @@
 -- From the entries of one map sector to the pages, and one turn of the loops over entries.
-use Rattle.std.proofs.Common.{◌≡◌, ℕ, ◌+◌, ◌*◌, ◌/◌, ◌^◌, ◌<◌, ◌≤◌, Bool, true, false, cond, eqb, List, length, get_or, set, sym, refl, ap, ◌∙◌, arith, length-set, get_or-set_other, get_or-set_same, eqb-true}
+use Rattle.std.proofs.Common.{◌≡◌, ℕ, ◌+◌, ◌*◌, ◌/◌, ◌^◌, ◌<◌, ◌≤◌, Bool, true, false, cond, ◌&&◌, eqb, List, [], ◌∷◌, length, get_or, drop, set, sym, refl, ap, ◌∙◌, arith, length-set, get_or-set_other, get_or-set_same, eq-eqb, ne_eqb, eqb-true}
 use borrow.Author.Tests.{eqb-false}
+use Rattle.std.proofs.lemmas.List.{drop_more, drop_all}
 use Rattle.std.specs.Int.Digits.{number_from_digits}
-use Rattle.octets.specs.Parts.{put}
-use Rattle.octets.specs.Numbers.{be}
-use Rattle.shadow.specs.Layout.{raw_in}
-use Rattle.octets.proofs.Numbers.{length-be, number-be}
-use Rattle.octets.proofs.Parts.{part-put, part-before}
+use Rattle.shadow.specs.Layout.{raw_in, put, blank}
+use Rattle.pager.specs.Digits.{be}
+use Rattle.pager.proofs.Bytes.{part-put, part-before, length-be, number-be}
 
 -- of a list after a write
 pub set_at : {A : Type 0} (l : List A) (i j : ℕ) (a d : A) → i < length l → j ≡ i → get_or (set l i a) j d ≡ a
@@ -64,6 +63,28 @@ load-more l f at k e b z h j m = by (eqb j k) refl
     by : (c : Bool) → eqb j k ≡ c → get_or (set l (at + k) e) (at + j) 0 ≡ f j
     by true q = let w = eqb-true j k q in set_at l (at + k) (at + j) e 0 b (omega arith) ∙ z ∙ ap f (sym w)
     by false q = let w = eqb-false j k q in get_or-set_other l (at + k) (at + j) e 0 (λ r. w (omega arith)) ∙ h j (omega (arith, w))
+
+-- whether what is left is blank
+blank-first : (x : ℕ) (l : List ℕ) → x ≡ 0 → blank (x ∷ l) ≡ blank l
+unfolding blank
+blank-first x l e = ap (λ t. t && blank l) (eq-eqb x 0 e)
+
+blank-first-not : (x : ℕ) (l : List ℕ) → (x ≡ 0 → ⊥) → blank (x ∷ l) ≡ false
+unfolding blank
+blank-first-not x l e = ap (λ t. t && blank l) (ne_eqb x 0 e)
+
+blank-nil : blank [] ≡ true
+unfolding blank
+blank-nil = refl
+
+pub blank-more : (l : List ℕ) (i : ℕ) → i < length l → get_or l i 0 ≡ 0 → blank (drop (i + 1) l) ≡ blank (drop i l)
+blank-more l i h e = sym (ap blank (drop_more l i 0 h) ∙ blank-first (get_or l i 0) (drop (i + 1) l) e)
+
+pub blank-not : (l : List ℕ) (i : ℕ) → i < length l → (get_or l i 0 ≡ 0 → ⊥) → blank (drop i l) ≡ false
+blank-not l i h e = ap blank (drop_more l i 0 h) ∙ blank-first-not (get_or l i 0) (drop (i + 1) l) e
+
+pub blank-end : (l : List ℕ) (i : ℕ) → length l ≤ i → blank (drop i l) ≡ true
+blank-end l i h = ap blank (drop_all i l h) ∙ blank-nil
 
 -- the slices that were read are the arrays
 pub settled-as : (f : List Bool) (a b : List ℕ) (f' : List Bool) (a' b' : List ℕ) (p : ℕ) → f' ≡ f → a' ≡ a → b' ≡ b → cond (get_or f' (p / 64) false) (get_or a' p 0) (get_or b' p 0) ≡ cond (get_or f (p / 64) false) (get_or a p 0) (get_or b p 0)

@@ -6,8 +6,7 @@ use Rattle.device.specs.Device.{Device, latest, shown, written, synced, With, an
 use Rattle.device.specs.declared.Ask.TheVariants.{Write, Sync, Again, Answer}
 use Rattle.device.proofs.Sectors.{since-same}
 use Rattle.device.proofs.Standing.{Then}
-use Rattle.octets.specs.Parts.{put, blank}
-use Rattle.shadow.specs.Layout.{other, area_at, slot_at, area_in, page_in, gather, updated, Free}
+use Rattle.shadow.specs.Layout.{other, area_at, slot_at, area_in, page_in, gather, put, blank, updated, Free}
 use Rattle.shadow.proofs.Pages.{page-slot, page-write, Laid, laid_none, laid_more, got-more, gather_none}
 use Rattle.shadow.proofs.Shadow.{
   area-low,
@@ -46,7 +45,7 @@ use Rattle.pager.specs.declared.state.Reply.TheVariants.{Page, Done, NoRoom, At,
 use Rattle.pager.specs.declared.state.Phase.{Phase}
 use Rattle.pager.specs.declared.state.Phase.TheVariants.{Opening, Header, Fetch, Loading, Check, Comparing, Idle, Asked, Short, Getting, Putting, Filling, Settled, Marked, Sealed}
 use Rattle.pager.specs.declared.state.Pager.{Pager}
-use Rattle.octets.proofs.Parts.{take_put}
+use Rattle.pager.proofs.Bytes.{take_put}
 use Rattle.pager.proofs.Invariant.{
   Of,
   view-moved,

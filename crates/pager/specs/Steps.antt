@@ -1,7 +1,6 @@
 -- What each function of the pager does to it, by phases. N: pages; M: map sectors; S: slots.
 use Rattle.std.specs.Prelude.{◌≡◌, ℕ, ◌+◌, ◌*◌, ◌/◌, ◌%◌, ◌<◌, ◌≤◌, Bool, true, false, cond, ◌⊎◌, List, length, vec_items, ◌≢◌, slice_index, slice_index_or, slice_set}
-use Rattle.octets.specs.Parts.{part, put, blank}
-use Rattle.shadow.specs.Layout.{pages, map_sectors, slots, other, area_at, slot_at, area_in, blank_page, raw_in, entry_in, Free}
+use Rattle.shadow.specs.Layout.{pages, map_sectors, slots, other, area_at, slot_at, area_in, part, put, blank, blank_page, raw_in, entry_in, Free}
 use Rattle.device.specs.Device.{With, Sector}
 use Rattle.device.specs.declared.Ask.{Ask}
 use Rattle.device.specs.declared.Never.{Never}

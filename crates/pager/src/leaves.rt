@@ -1,10 +1,7 @@
 // Sectors, map sectors and arrays of entries: functions on plain values and slices.
 ghost use Rattle.std.specs.Prelude.{◌≡◌, ℕ, ◌+◌, ◌-◌, ◌*◌, ◌/◌, ◌%◌, ◌^◌, ◌<◌, ◌≤◌, Bool, true, false, ◌⊎◌, length, get_or, if◌then◌else◌, ◌≢◌, slice_index, slice_index_or};
-ghost use Rattle.octets.specs.Numbers.{be};
-ghost use Rattle.octets.specs.Parts.{part, put};
-ghost use Rattle.shadow.specs.Layout.{area_at, slot_at, area_in, raw_in, entry_in, Free};
-
-use bytes::{get_u64, put_u64};
+ghost use Rattle.pager.specs.Digits.{be};
+ghost use Rattle.shadow.specs.Layout.{area_at, slot_at, area_in, part, put, blank, raw_in, entry_in, Free};
 
 // The sector i of an area.
 pub fn area_at(maps: usize, second: bool, i: usize) -> u64
@@ -41,6 +38,15 @@ pub fn mark(header: &mut [u8; 512], second: bool)
     header[0] = if second { 1 } else { 0 };
 }
 
+// Bytes go to their place.
+pub fn copy_in(out: &mut [u8], at: usize, src: &[u8])
+    requires { at + length src.now ≤ length out.old }
+    ensures { out.new ≡ put out.old at src.now }
+{
+    let n = src.len();
+    out[at..at + n].copy_from_slice(src);
+}
+
 // The part j of a page goes into a sector.
 pub fn cut(sector: &mut [u8; 512], page: &[u8], j: usize)
     requires { 512 * j + 512 ≤ length page.now }
@@ -51,12 +57,25 @@ pub fn cut(sector: &mut [u8; 512], page: &[u8], j: usize)
     sector.copy_from_slice(&page[at..at + 512]);
 }
 
+// Whether a page holds nothing but zeros.
+pub fn is_blank(page: &[u8]) -> bool
+    ensures { result ≡ blank page.now }
+{
+    for i in 0..page.len() {
+        if page[i] != 0 {
+            return false;
+        }
+    }
+    true
+}
+
 // Writes the entry k of a map sector.
 pub fn put_entry(sector: &mut [u8; 512], k: usize, entry: u64)
     requires { k < 64 }
     ensures { (sector.new ≡ put sector.old (8 * k) (be 8 entry)) × (entry < 2 ^ 64) }
 {
-    put_u64(sector, 8 * k, entry);
+    let at = 8 * k;
+    sector[at..at + 8].copy_from_slice(&entry.to_be_bytes());
 }
 
 // The entry k of a map sector; one that is no slot counts as blank.
@@ -64,7 +83,10 @@ pub fn entry_in(sector: &[u8; 512], k: usize, slots: usize) -> u64
     requires { k < 64 }
     ensures { result ≡ entry_in slots sector.now k }
 {
-    let raw = get_u64(sector, 8 * k);
+    let at = 8 * k;
+    let mut bytes = [0u8; 8];
+    bytes.copy_from_slice(&sector[at..at + 8]);
+    let raw = u64::from_be_bytes(bytes);
     if raw <= slots as u64 { raw } else { 0 }
 }
 
@@ -213,4 +235,11 @@ pub fn settle(out: &mut [u64], from: &[u64], flags: &[bool])
             copy_part(out, from, i);
         }
     }
+}
+
+pub fn copy<T: Copy>(out: &mut [T], from: &[T])
+    requires { length out.old ≡ length from.now }
+    ensures { out.new ≡ from.now }
+{
+    out.copy_from_slice(from);
 }

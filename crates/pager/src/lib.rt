@@ -6,8 +6,8 @@
 // whole or not at all, so after a cut the header names the old area or the new one, and all that either leads to is there.
 // Nothing is counted up, so no number can come round.
 //
-// It holds no pages in memory but the one under way, and stands on `bytes`, `device` and `shadow`; a cache of pages is a layer above it.
-mod leaves;
+// It holds no pages in memory but the one under way, and stands on `device` and `shadow`; a cache of pages is a layer above it.
+pub mod leaves;
 pub mod state;
 
 pub use state::{Call, Pager, Reply};

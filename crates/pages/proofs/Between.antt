@@ -5,8 +5,7 @@ use Rattle.device.specs.Layers.{Place, down, below, raised, lifting, rests, begu
 use Rattle.device.specs.declared.Never.{Never}
 use Rattle.device.specs.declared.Next.{Next}
 use Rattle.device.specs.declared.Next.TheVariants as next
-use Rattle.octets.specs.Parts.{blank}
-use Rattle.shadow.specs.Layout.{pages}
+use Rattle.shadow.specs.Layout.{pages, blank}
 use Rattle.pager.specs.Model.{Held, undone, committed, changed, cleared, Crowded}
 use Rattle.pager.specs.Model as low
 use Rattle.pager.specs.declared.state.Call.{Call}

@@ -1,3 +1,4 @@
+pub mod Lists
 pub mod Agree
 pub mod Between
 pub mod Cuts

@@ -1,6 +1,6 @@
 -- What the frames do, by what is under way.
 use Rattle.std.specs.Prelude.{◌≡◌, ℕ, ◌+◌, ◌-◌, ◌%◌, ◌<◌, ◌≤◌, Bool, true, false, ◌⊎◌, List, [], length, vec_items, ◌≢◌, slice_index, slice_index_or, slice_set}
-use Rattle.octets.specs.Parts.{blank}
+use Rattle.shadow.specs.Layout.{blank}
 use Rattle.device.specs.Device.{With}
 use Rattle.device.specs.Layers.{Layer}
 use Rattle.device.specs.declared.Never.{Never}

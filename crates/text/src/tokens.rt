@@ -4,7 +4,6 @@ ghost use Rattle.meaning.specs.Text.{tokens, Between, InQuotes, Wrong as Faulty,
 ghost use Rattle.text.specs.Cut.{Run, in_word, space, tokens_at, undoubled, Short};
 
 use crate::nodes::Span;
-use octets::byte_at;
 
 // A token: a part of the bytes, but for the signs. Signs of two bytes have numbers from 256: <= <> || >=.
 #[derive(Clone, Copy)]
@@ -95,6 +94,13 @@ fn quoted_len(s: &[u8]) -> Option<usize>
         }
     }
     None
+}
+
+// The byte at a place, or 0 past the end.
+fn byte_at(s: &[u8], i: usize) -> u8
+    ensures { result ≡ slice_index s.now i }
+{
+    if i < s.len() { s[i] } else { 0 }
 }
 
 fn span(from: usize, len: usize) -> Span

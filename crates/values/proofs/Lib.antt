@@ -1,4 +1,6 @@
 pub mod Numbers
+pub mod Bytes
+pub mod Compared
 pub mod Keys
 pub mod Writing
 pub mod Rows

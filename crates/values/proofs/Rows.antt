@@ -10,11 +10,11 @@ use Rattle.std.proofs.lemmas.Bool.Decides.{nat_tests}
 use Rattle.meaning.specs.Value.{Value, Null, Num, Text}
 use Rattle.meaning.specs.Meaning.{nth}
 use Rattle.meaning.specs.Doing.{weight, weight_all}
-use Rattle.octets.specs.Numbers.{be, Bytes}
+use Rattle.values.specs.Bytes.{be, Bytes}
 use Rattle.octets.specs.Parts.{part}
 use Rattle.values.specs.Key.{lifted, Storable}
 use Rattle.values.specs.Row.{bytes_of, row_bytes, lowered, Split, text_front, chained, front_of, front, column_of, row_by, row_of, RowsRead, RowsWritten, RowsColumns, RowsWeigh}
-use Rattle.octets.proofs.Numbers.{length-be, number-be, be-number}
+use Rattle.values.proofs.Bytes.{length-be, number-be, be-number}
 use Rattle.values.proofs.Keys.{Held, held-storable, lifted-below}
 
 -- numbers with 2^63 added and taken away

@@ -5,7 +5,7 @@ use Rattle.std.proofs.lemmas.List.{drop_more, drop_all, take_more_set, take_all,
 use Rattle.std.proofs.lemmas.Bool.{cond-true, cond-false, eq-eqb, ne_eqb, eqb-true}
 use Rattle.meaning.specs.Value.{Null, Num, Text}
 use Rattle.meaning.specs.Doing.{weight}
-use Rattle.octets.specs.Numbers.{Bytes}
+use Rattle.values.specs.Bytes.{Bytes}
 use Rattle.values.specs.Key.{escaped, rising_code}
 use Rattle.values.specs.Row.{Split, bytes_of, front, front_of}
 use Rattle.values.specs.Back.{Taken, added, unescaped, text_back, back_of, back, ColumnsRead, ColumnsWritten}

@@ -4,11 +4,12 @@ use mir.Syntax.{w128}
 use Rattle.std.proofs.lemmas.List.{drop_more, drop_all, drop-set-lt, length-map}
 use Rattle.std.proofs.lemmas.Int.{to_z-of_z, to_z_pos}
 use Rattle.std.proofs.lemmas.Bool.{cond-false, cond_both, le-ltb}
-use Rattle.octets.specs.Numbers.{turned}
+use Rattle.values.specs.Bytes.{turned}
 use Rattle.octets.specs.Parts.{part, put}
 use Rattle.values.specs.Key.{lifted, escaped}
 use Rattle.values.specs.Row.{lowered}
-use Rattle.octets.proofs.Parts.{part-put, put-cons, put-over, part-more}
+use Rattle.values.proofs.Bytes.{put-cons, put-over, part-more}
+use Rattle.octets.proofs.Parts.{part-put}
 
 -- one byte of a text
 

@@ -3,7 +3,7 @@ use Rattle.std.specs.Prelude.{◌≡◌, ℕ, zero, suc, ◌-◌, ◌<◌, ◌�
 use Rattle.std.specs.Option.{option_map}
 use Rattle.meaning.specs.Value.{Value, Text}
 use Rattle.meaning.specs.Doing.{weight}
-use Rattle.octets.specs.Numbers.{Bytes}
+use Rattle.values.specs.Bytes.{Bytes}
 use Rattle.values.specs.Key.{rising_code, Storable}
 use Rattle.values.specs.Row.{Split, front_of}
 use Rattle.values.specs.declared.back.Next.{Next}

@@ -1,4 +1,5 @@
 pub mod Meant
+pub mod Bytes
 pub mod Key
 pub mod Row
 pub mod Back

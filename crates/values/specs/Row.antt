@@ -6,7 +6,7 @@ use Rattle.std.specs.List.{AllByRecursion as All}
 use Rattle.meaning.specs.Value.{Value, Null, Num, Text}
 use Rattle.meaning.specs.Meaning.{nth}
 use Rattle.meaning.specs.Doing.{weight, weight_all}
-use Rattle.octets.specs.Numbers.{be, Bytes}
+use Rattle.values.specs.Bytes.{be, Bytes}
 use Rattle.values.specs.Key.{lifted, Storable}
 use Rattle.values.specs.Meant.{meaning_of}
 use Rattle.values.specs.declared.row.First.{First}

@@ -4,12 +4,12 @@ ghost use Rattle.std.specs.Prelude.{◌≡◌, ◌+◌, ◌-◌, ◌*◌, ◌≤
 ghost use Rattle.meaning.specs.Value.{less_bytes};
 ghost use Rattle.meaning.specs.Doing.{weight};
 ghost use Rattle.values.specs.Meant.{meaning_of};
-ghost use Rattle.octets.specs.Numbers.{turned};
+ghost use Rattle.values.specs.Bytes.{turned};
 ghost use Rattle.octets.specs.Parts.{part, put};
 ghost use Rattle.values.specs.Key.{lifted, escaped, rising_code, code_of, column_room, Storable, OrdersKeys, KeysOrdered, KeysFollowed, KeysApart, KeysShort};
 
 use crate::Value;
-use octets::put_u64;
+use crate::digits::put_u64;
 
 // The first byte of a column: nulls come before numbers, numbers before texts.
 pub(crate) const NULL: u8 = 1;

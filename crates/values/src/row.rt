@@ -3,14 +3,14 @@ ghost use Rattle.std.specs.Prelude.{◌≡◌, ◌+◌, ◌≤◌, ◌++◌, len
 ghost use Rattle.std.specs.Option.{option_map};
 ghost use Rattle.meaning.specs.Doing.{weight};
 ghost use Rattle.values.specs.Meant.{meaning_of};
-ghost use Rattle.octets.specs.Numbers.{be, Bytes};
+ghost use Rattle.values.specs.Bytes.{be, Bytes};
 ghost use Rattle.octets.specs.Parts.{put};
 ghost use Rattle.values.specs.Row.{bytes_of, has_room, lowered, front, front_of, seen, column_of, row_of, RowsRead, RowsWritten, RowsColumns, RowsWeigh};
 ghost use Rattle.values.specs.Key.{Storable};
 
 use crate::Value;
+use crate::digits::{get_u16, get_u64, put_u16, put_u64};
 use crate::key::lift;
-use bytes::{copy_in, get_u16, get_u64, put_u16, put_u64};
 
 // The first byte of a value says its kind.
 const NULL: u8 = 0;
@@ -84,8 +84,9 @@ fn put_text(text: &[u8], out: &mut [u8], at: usize) -> usize
 {
     put_u16(out, at, text.len() as u16);
     let from = at + 2;
-    copy_in(out, from, text);
-    from + text.len()
+    let end = from + text.len();
+    out[from..end].copy_from_slice(text);
+    end
 }
 
 // The first value of bytes; none where no value stands there.

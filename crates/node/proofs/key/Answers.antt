@@ -1,13 +1,13 @@
 use Rattle.std.proofs.Common.{◌≡◌, arith}
 use Rattle.octets.specs.Parts.{pair}
 use Rattle.node.specs.Node.{start_of}
-use Rattle.node.proofs.Places.{few}
+use Rattle.node.proofs.Places.{placed}
 use Rattle.node.proofs.key.Goals as goal
 
 pub returns : goal.returns
 returns c = λ n h l.
-    let p = few c.args.page.now n c.args.i h l in
+    let p = placed c.args.page.now n c.args.i h l in
     let s : c.start-of-start.result ≡ start_of c.args.page.now c.args.i = c.start-of-start.ensures.is (omega arith) in
-    let k : c.key-len.result ≡ pair c.args.page.now c.start-of-start.result = c.key-len.ensures.is in
+    let k : c.key-len.result ≡ pair c.args.page.now c.start-of-start.result = c.key-len.ensures.is (omega arith) in
     let q = c.part-of.ensures in
     cc

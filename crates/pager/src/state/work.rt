@@ -5,7 +5,6 @@ ghost use Rattle.pager.specs.Steps.{Opened, ws, Same, Sizes, FetchAt, LoadAt, An
 
 use super::{Call, Pager, Phase, Reply};
 use crate::leaves;
-use bytes::{copy_in, is_blank};
 use device::{Ask, Never, Store, bytes_fit};
 use std::alloc::{AllocError, Global};
 
@@ -20,7 +19,7 @@ impl Pager {
             self.phase = Phase::Loading(i);
             Ask::Read(leaves::area_at(self.maps, self.second, i))
         } else {
-            self.present.copy_from_slice(&self.base);
+            leaves::copy(&mut self.present, &self.base);
             leaves::link(&mut self.owner, &self.base, self.pages);
             self.phase = Phase::Check(0);
             Ask::Again
@@ -122,7 +121,7 @@ impl Pager {
         if !self.in_slot(slot, j) {
             return Ask::Answer(Reply::Done);
         }
-        copy_in(&mut self.page, 512 * j, given);
+        leaves::copy_in(&mut self.page, 512 * j, given);
         if j == 7 {
             self.phase = Phase::Idle;
             return Ask::Answer(Reply::Page);
@@ -193,7 +192,7 @@ impl Pager {
         if p >= self.pages {
             return Ask::Answer(Reply::Outside);
         }
-        let blank = is_blank(&self.page);
+        let blank = leaves::is_blank(&self.page);
         if blank {
             self.enter(p, 0);
             self.phase = Phase::Idle;
@@ -291,7 +290,7 @@ impl Pager {
     {
         self.second = !self.second;
         leaves::settle(&mut self.base, &self.present, &self.dirty);
-        self.behind.copy_from_slice(&self.dirty);
+        leaves::copy(&mut self.behind, &self.dirty);
         self.dirty.fill(false);
         self.phase = Phase::Idle;
         Ask::Answer(Reply::Done)
@@ -363,7 +362,7 @@ impl Store for Pager {
         self.phase = Phase::Asked(c);
         if let Call::Put(_) = c {
             if bytes.len() == 4096 {
-                self.page.copy_from_slice(bytes);
+                leaves::copy(&mut self.page, bytes);
             } else {
                 self.phase = Phase::Short;
             }

@@ -1,12 +1,12 @@
 // What the frames do.
 ghost use Rattle.std.specs.Prelude.{◌≡◌, ℕ, ◌+◌, ◌-◌, ◌*◌, ◌%◌, ◌<◌, ◌≤◌, true, false, [], length, IfOk, slice_index_or};
-ghost use Rattle.octets.specs.Parts.{blank};
+ghost use Rattle.shadow.specs.Layout.{blank};
 ghost use Rattle.pages.specs.Model.{pages_engine, PagesWhole, RoomStands, Memory, Takings};
 ghost use Rattle.pages.specs.Layer.{Wakes, reply_of, frame_of, tg, st, fr, given, Same, Goes, Refills, Vacates, Stores, WritesBack, Hit, GetStarts, PutStarts, FlushOn, UndoStarts, Owns, Cleared, Made, Fetched, Flushed, frames_layer};
 
 use super::{Doing, FRAMES, Frames, PageCall, PageReply};
-use octets::is_blank;
 use device::{Layer, Never, Next, Over};
+use pager::leaves::{copy, is_blank};
 use pager::{Call, Pager, Reply};
 use std::alloc::{AllocError, Global};
 
@@ -263,7 +263,7 @@ impl Layer for Frames {
         self.doing = Doing::Asked(c);
         if let PageCall::Put(_) = c {
             if bytes.len() == 4096 {
-                self.page.copy_from_slice(bytes);
+                copy(&mut self.page, bytes);
             } else {
                 self.doing = Doing::Short;
             }

@@ -1,8 +1,7 @@
 use Rattle.std.proofs.Common.{ℕ, ◌+◌, ◌*◌, List, length, get_or, refl, ap, ◌∙◌, arith}
 use Rattle.shadow.specs.Layout.{raw_in}
-use Rattle.octets.specs.Numbers.{be}
-use Rattle.octets.proofs.Numbers.{length-be}
-use Rattle.octets.proofs.Parts.{length-put}
+use Rattle.pager.specs.Digits.{be}
+use Rattle.pager.proofs.Bytes.{length-put, length-be}
 use Rattle.pager.proofs.Turns.{raw-more}
 use Rattle.pager.proofs.leaves.encode.Goals as goal
 

@@ -1,7 +1,6 @@
 use Rattle.std.proofs.Common.{rules}
 use Rattle.meaning.specs.Value.{less}
-use Rattle.octets.proofs.Order.{lex-is}
-use Rattle.values.proofs.Numbers.{lt_z-is}
+use Rattle.values.proofs.Numbers.{lt_z-is, lex-is}
 use Rattle.values.proofs.Value.less.Goals as goal
 
 pub returns-in-Null-Null : goal.returns-in-Null-Null

@@ -2,12 +2,15 @@ use Rattle.std.proofs.Common.{◌≡◌, suc, ◌+◌, length, set, sym, refl, a
 use Rattle.std.proofs.lemmas.Int.{to_z-of_z}
 use Rattle.meaning.specs.Doing.{weight}
 use Rattle.values.specs.Meant.{meaning_of}
-use Rattle.octets.specs.Numbers.{be}
+use Rattle.values.specs.Bytes.{be}
 use Rattle.octets.specs.Parts.{put}
 use Rattle.values.specs.Key.{lifted, escaped, rising_code}
-use Rattle.octets.proofs.Numbers.{length-be}
-use Rattle.octets.proofs.Parts.{put_in-fits, put_one, put-cons}
+use Rattle.values.proofs.Bytes.{put_one, put-cons, length-be}
 use Rattle.values.proofs.key.put_rising.Goals as goal
+
+pub put-u64-requires : goal.put-u64-requires
+unfolding weight rising_code
+put-u64-requires c = let w = ap (λ v. weight (meaning_of v)) c.in-Number.is in simp length-set (omega (arith, w))
 
 pub put-escaped-requires : goal.put-escaped-requires
 unfolding weight rising_code
@@ -20,14 +23,12 @@ returns-in-Null c = record { place = ap (λ v. c.args.at + length (rising_code (
 pub returns-in-Number : goal.returns-in-Number
 unfolding weight rising_code
 returns-in-Number c =
-    let w = ap (λ v. weight (meaning_of v)) c.in-Number.is in
     let f : SFits w64 c.in-Number.n = search rules in
     let e = c.lift.ensures ∙ ap lifted (to_z-of_z w64 c.in-Number.n f) in
     record {
       place = ap (λ n. c.args.at + suc n) (sym (length-be 8 (lifted c.in-Number.n))) ∙ ap (λ v. c.args.at + length (rising_code (meaning_of v))) (sym c.in-Number.is);
       bytes =
           c.put-u64.ensures
-          ∙ put_in-fits (set c.args.out.now c.args.at 2) (be 8 c.lift.result) (c.args.at + 1) (omega (arith, w, length-be 8 c.lift.result, length-set c.args.out.now c.args.at 2))
           ∙ ap (λ n. put (set c.args.out.now c.args.at 2) (c.args.at + 1) (be 8 n)) e
           ∙ put-cons c.args.out.now (be 8 (lifted c.in-Number.n)) c.args.at (c.args.at + 1) 2 refl (omega arith)
           ∙ ap (λ v. put c.args.out.now c.args.at (rising_code (meaning_of v))) (sym c.in-Number.is);

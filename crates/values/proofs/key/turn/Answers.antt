@@ -1,7 +1,7 @@
 use Rattle.std.proofs.Common.{◌≡◌, ◌-◌, sym, refl, ap, ◌∙◌, arith}
-use Rattle.octets.specs.Numbers.{turned}
+use Rattle.values.specs.Bytes.{turned}
 use Rattle.octets.specs.Parts.{part, put}
-use Rattle.octets.proofs.Parts.{put-nil}
+use Rattle.values.proofs.Bytes.{put-nil}
 use Rattle.values.proofs.Writing.{turn_more}
 use Rattle.values.proofs.key.turn.Goals as goal
 

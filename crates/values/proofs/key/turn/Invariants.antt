@@ -1,5 +1,5 @@
 use Rattle.std.proofs.Common.{◌≡◌, ◌-◌}
-use Rattle.octets.specs.Numbers.{turned}
+use Rattle.values.specs.Bytes.{turned}
 use Rattle.octets.specs.Parts.{part, put}
 use Rattle.values.proofs.key.turn.Given as goal
 

@@ -1,19 +1,15 @@
-use Rattle.std.proofs.Common.{◌+◌, ◌++◌, length, refl, ap, ◌∙◌, arith}
-use Rattle.octets.specs.Parts.{put, put_in, pair_of}
-use Rattle.octets.proofs.Numbers.{pair_of-is}
-use Rattle.octets.proofs.Parts.{put_in-fits, put_in-behind}
+use Rattle.std.proofs.Common.{◌+◌, ◌-◌, length, refl, ap, ◌∙◌, arith}
+use Rattle.values.specs.Bytes.{be}
+use Rattle.octets.specs.Parts.{put}
+use Rattle.values.proofs.Bytes.{length-be}
+use Rattle.octets.proofs.Parts.{put_is, put-put}
 use Rattle.values.proofs.row.put_text.Goals as goal
 
 pub returns : goal.returns
-returns c =
-    let out = c.args.out.now in
-    let text = c.args.text.now in
-    let at = c.args.at in
-    record {
-      place = refl;
-      bytes =
-          c.copy-in.ensures
-          ∙ ap (λ t. put_in t (at + 2) text) (c.put-u16.ensures ∙ put_in-fits out (pair_of (length text)) at (omega (arith, c.requires.room)))
-          ∙ put_in-behind out (pair_of (length text)) text at (at + 2) refl (omega (arith, c.requires.room))
-          ∙ ap (λ t. put out at (t ++ text)) (pair_of-is (length text) (omega (arith, c.requires.short)));
-    }
+returns c = record {
+  place = refl;
+  bytes =
+      put_is (c.args.at + 2) (c.args.at + 2 + length c.args.text.now - (c.args.at + 2)) c.put-u16.new.out c.copy-from-slice.new.self c.args.text.now c.copy-from-slice.ensures.after (omega arith)
+      ∙ ap (λ t. put t (c.args.at + 2) c.args.text.now) c.put-u16.ensures
+      ∙ put-put c.args.out.now (be 2 (length c.args.text.now)) c.args.text.now c.args.at (c.args.at + 2) (let e = length-be 2 (length c.args.text.now) in omega arith) (let e = length-be 2 (length c.args.text.now) in omega (arith, c.requires.room));
+}

@@ -2,12 +2,11 @@ use Rattle.std.proofs.Common.{◌≡◌, ◌+◌, ◌++◌, length, set, sym, re
 use Rattle.std.proofs.lemmas.Int.{to_z-of_z}
 use Rattle.meaning.specs.Doing.{weight}
 use Rattle.values.specs.Meant.{meaning_of}
-use Rattle.octets.specs.Numbers.{be}
+use Rattle.values.specs.Bytes.{be}
 use Rattle.octets.specs.Parts.{put}
 use Rattle.values.specs.Key.{lifted}
 use Rattle.values.specs.Row.{bytes_of}
-use Rattle.octets.proofs.Numbers.{length-be}
-use Rattle.octets.proofs.Parts.{put_in-fits, put_one, put-cons}
+use Rattle.values.proofs.Bytes.{put_one, put-cons}
 use Rattle.values.proofs.row.put_value.Goals as goal
 
 pub bounds-out-at : goal.bounds-out-at
@@ -17,6 +16,10 @@ bounds-out-at c = let w = ap (λ v. weight (meaning_of v)) c.in-Null.is in omega
 pub bounds-out-at-in-Number : goal.bounds-out-at-in-Number
 unfolding weight bytes_of
 bounds-out-at-in-Number c = let w = ap (λ v. weight (meaning_of v)) c.in-Number.is in omega (arith, w, c.requires.room)
+
+pub put-u64-requires : goal.put-u64-requires
+unfolding weight bytes_of
+put-u64-requires c = let w = ap (λ v. weight (meaning_of v)) c.in-Number.is in simp length-set (omega (arith, w, c.requires.room))
 
 pub bounds-out-at-in-Text : goal.bounds-out-at-in-Text
 unfolding weight bytes_of
@@ -40,7 +43,6 @@ returns-in-Number c =
       place = ap (λ v. c.args.at + weight (meaning_of v)) (sym c.in-Number.is);
       bytes =
           c.put-u64.ensures
-          ∙ put_in-fits (set c.args.out.now c.args.at 1) (be 8 c.lift.result) (c.args.at + 1) (omega (arith, w, c.requires.room, length-be 8 c.lift.result, length-set c.args.out.now c.args.at 1))
           ∙ ap (λ n. put (set c.args.out.now c.args.at 1) (c.args.at + 1) (be 8 n)) e
           ∙ put-cons c.args.out.now (be 8 (lifted c.in-Number.n)) c.args.at (c.args.at + 1) 1 refl (omega (arith, w, c.requires.room))
           ∙ ap (λ v. put c.args.out.now c.args.at (bytes_of (meaning_of v))) (sym c.in-Number.is);

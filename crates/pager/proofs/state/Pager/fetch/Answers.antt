@@ -11,6 +11,7 @@ as-linked base b owner o n s e k h p i j =
 pub returns-else-i-self : goal.returns-else-i-self
 returns-else-i-self c =
     let b = c.args.self.now.base in
+    let e = with_items_is c.args.self.now.present c.copy.new.out (omega arith) in
     let f = with_items_is c.args.self.now.owner c.link.new.owner (omega arith) in
     record {
       at = inr (
@@ -20,10 +21,10 @@ returns-else-i-self c =
           phase = refl;
           second = refl;
           base = refl;
-          present = c.copy-from-slice.ensures.items ∙ c.deref.ensures.value;
+          present = e ∙ c.copy.ensures ∙ c.deref.ensures.value;
           owner = subst (λ (t : List ℕ). (p : ℕ) → p < c.args.self.now.pages → get_or b.items p 0 ≤ c.args.self.now.slots →
               (get_or t (get_or b.items p 0) 0 < c.args.self.now.pages) × (get_or b.items (get_or t (get_or b.items p 0) 0) 0 ≡ get_or b.items p 0)) (sym f)
-              (as-linked b.items c.deref-else-i-self.result.now c.link.new.owner c.deref-mut.result.now c.args.self.now.pages c.args.self.now.slots
+              (as-linked b.items c.deref-else-i-self.result.now c.link.new.owner c.deref-mut-else-i-self.result.now c.args.self.now.pages c.args.self.now.slots
               c.deref-else-i-self.ensures.value (omega arith) c.link.ensures);
         },
       );

@@ -1,7 +1,6 @@
-use Rattle.std.proofs.Common.{ℕ, ◌+◌, ◌*◌, ◌<◌, List, refl, ap, ◌∙◌, inl, inr, arith, rules}
+use Rattle.std.proofs.Common.{ℕ, ◌+◌, ◌*◌, List, refl, ap, ◌∙◌, inl, inr, arith, rules}
 use Rattle.std.proofs.lemmas.List.{with_items_is}
-use Rattle.octets.specs.Parts.{put}
-use Rattle.octets.proofs.Parts.{put_in-fits}
+use Rattle.shadow.specs.Layout.{put}
 use Rattle.device.specs.declared.Ask.TheVariants.{Read}
 use Rattle.pager.proofs.state.Pager.gather.Goals as goal
 
@@ -12,16 +11,13 @@ returns-then-j-eq7 c =
         long = c.told-given;
         last = c.if-j-eq7.true;
         goes = record { ask = refl; phase = refl; same = record { second = refl; base = refl; present = refl; owner = refl; dirty = refl; behind = refl } };
-        page = with_items_is c.args.self.now.page c.copy-in.new.out (omega arith) ∙ c.copy-in.ensures
-            ∙ put_in-fits c.deref-mut.result.now c.args.given.now (512 * c.args.j) (omega arith)
-            ∙ ap (λ (t : List ℕ). put t (512 * c.args.j) c.args.given.now) c.deref-mut.ensures.value;
+        page = with_items_is c.args.self.now.page c.copy-in.new.out (omega arith) ∙ c.copy-in.ensures ∙ ap (λ (t : List ℕ). put t (512 * c.args.j) c.args.given.now) c.deref-mut.ensures.value;
       }));
       sizes = record { pages = refl; maps = refl; slots = refl };
     }
 
 pub returns : goal.returns
 returns c =
-    let low : c.args.j < 8 = search rules in
     record {
       at = inl (record {
         long = c.told-given;
@@ -33,9 +29,7 @@ returns c =
           phase = refl;
           same = record { second = refl; base = refl; present = refl; owner = refl; dirty = refl; behind = refl };
         };
-        page = with_items_is c.args.self.now.page c.copy-in.new.out (omega arith) ∙ c.copy-in.ensures
-            ∙ put_in-fits c.deref-mut.result.now c.args.given.now (512 * c.args.j) (omega arith)
-            ∙ ap (λ (t : List ℕ). put t (512 * c.args.j) c.args.given.now) c.deref-mut.ensures.value;
+        page = with_items_is c.args.self.now.page c.copy-in.new.out (omega arith) ∙ c.copy-in.ensures ∙ ap (λ (t : List ℕ). put t (512 * c.args.j) c.args.given.now) c.deref-mut.ensures.value;
       });
       sizes = record { pages = refl; maps = refl; slots = refl };
     }

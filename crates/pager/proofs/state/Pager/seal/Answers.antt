@@ -16,7 +16,7 @@ returns c =
             c.deref-2.ensures.value c.deref.ensures.value c.deref-mut.ensures.value;
         present = refl;
         owner = refl;
-        behind = c.copy-from-slice.ensures.items ∙ c.deref-3.ensures.value;
+        behind = with_items_is s.behind c.copy.new.out (omega arith) ∙ c.copy.ensures ∙ c.deref-3.ensures.value;
       };
       sizes = record { pages = refl; maps = refl; slots = refl };
     }
