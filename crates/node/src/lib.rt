@@ -7,7 +7,7 @@ ghost use Rattle.tree.specs.Pages.{weigh};
 ghost use Rattle.node.specs.Look.{Picked};
 ghost use Rattle.node.specs.Node.{count_in, start_of, key_at, value_at, entry_at, entries_in, Formed, Sorted, Parted, Cleared, Written, Pushed};
 
-use bytes::{copy_in, fill_zero, less, pair_at, part_of, put_pair};
+use octets::{copy_in, fill_zero, less, pair_at, part_of, put_pair};
 
 pub mod joiner;
 
