@@ -1,5 +1,7 @@
 // Plays random gets, puts, searches, commits, undos and cuts of power on pages over a device in memory, against a model in memory,
 // from printed seeds; and counts what is asked of the device.
+#![tactic(auto)]
+
 mod drive;
 mod model;
 
