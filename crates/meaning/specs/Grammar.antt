@@ -1,5 +1,5 @@
 -- Which tokens are which statement. Levels of expressions, from the loosest: 0 or, 1 and, 2 not, 3 comparisons, 4 sums, 5 products, 6 minus before, 7 the smallest.
-use Rattle.std.specs.Prelude.{ℕ, suc, ◌+◌, ◌<◌, Bool, true, false, ◌||◌, T, List, [], ◌∷◌, ◌++◌, pos}
+use Rattle.std.specs.Prelude.{ℕ, suc, ◌<◌, Bool, true, false, ◌||◌, T, List, [], ◌∷◌, ◌++◌, pos}
 use Rattle.meaning.specs.Value.{Null, Num, Text, Aggregate, Count, Sum, Min, Max}
 use Rattle.meaning.specs.Tree.{Name, Source, Limit, all, up_to, Expr, lit, col, plus, minus, times, concat, negated, equal, below, at_most, and, or, not', isnull, row_count, aggregate, exists, scalar, Exprs, none, more, Keys, unsorted, key, Query, query, Col, Set, Statement, create_table, drop_table, create_index, drop_index, insert, insert_from, update, delete, select, begin, commit, rollback, savepoint, rollback_to, release, aggregates_any, aggregates_key}
 use Rattle.meaning.specs.Text.{Token, Word, Number, Quoted, Sign, Between, tokens, plain_name, at_most_sign, differs_sign, joined_sign, at_least_sign, k_select, k_distinct, k_from, k_where, k_group, k_by, k_having, k_order, k_asc, k_desc, k_limit, k_offset, k_and, k_or, k_not, k_is, k_null, k_exists, k_count, k_sum, k_min, k_max, k_create, k_table, k_unique, k_index, k_on, k_drop, k_insert, k_into, k_values, k_update, k_set, k_delete, k_begin, k_commit, k_rollback, k_to, k_savepoint, k_release, k_int, k_text}

@@ -1,5 +1,5 @@
 -- Tables, and what queries answer: the rows, in their order. No plan or page is in here, and no query looks at an index.
-use Rattle.std.specs.Prelude.{ℕ, zero, suc, ◌+◌, ◌*◌, Bool, true, false, cond, not, ◌&&◌, ◌||◌, List, [], ◌∷◌, ◌++◌, map, length, pos, ◌+ℤ◌, ◌-ℤ◌, ◌*ℤ◌, ◌==◌}
+use Rattle.std.specs.Prelude.{ℕ, zero, suc, Bool, true, false, cond, not, ◌&&◌, ◌||◌, List, [], ◌∷◌, ◌++◌, map, length, pos, ◌+ℤ◌, ◌-ℤ◌, ◌*ℤ◌, ◌==◌}
 use Rattle.meaning.specs.Value.{Value, Null, Num, less, same, truth, from_truth, and3, not3, holds, from_bool, is_null, compared, arithmetic, joined, fits, aggregated}
 use Rattle.meaning.specs.Tree.{Name, Source, Limit, all, up_to, Expr, lit, col, plus, minus, times, concat, negated, equal, below, at_most, and, or, not', isnull, row_count, aggregate, exists, scalar, Exprs, none, more, Keys, unsorted, key, Query, query, Col}
 

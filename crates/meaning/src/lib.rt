@@ -2,6 +2,8 @@
 // it is refused, what tables weigh, and what a call to a connection may answer. There is no code here, and no page or plan in the definitions: they are what a reader has to believe,
 // and the store is proved against them. Start with specs/Value.antt; then Tree, Text and Grammar (texts), Meaning and Doing (tables), Session (a connection), Cases for worked examples and Laws.
 // Each function below does nothing: its contract is a theorem on these definitions, which shows that they hold together.
+#![tactic(auto)]
+
 ghost use Rattle.meaning.specs.Laws.{Ordered, StaysSound, BlankSound, ConnectionStaysSound};
 ghost use Rattle.meaning.specs.Cases.{CasesStand};
 

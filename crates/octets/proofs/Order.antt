@@ -1,8 +1,8 @@
 -- The order of bytes: it is one, which the meaning shows, and that of slices.
-use Rattle.std.proofs.Common.{◌≡◌, ℕ, ◌<◌, Bool, true, false, List, [], ◌∷◌, IsSomeAnd, sym, refl, ◌∙◌, subst, arith}
+use Rattle.std.proofs.Common.{◌≡◌, ℕ, Bool, true, false, List, [], ◌∷◌, Some, sym, refl, ◌∙◌, subst, arith}
 use Rattle.std.proofs.lemmas.Bool.Decides.{nat_tests}
-use Rattle.std.specs.Ordering.{MatchOrdering, Tested, is_lt, nat_cmp}
-use Rattle.std.specs.Cmp.Lexicographic.{LexSome}
+use Rattle.std.specs.Ordering.{is_lt, is_some_and, nat_cmp}
+use Rattle.std.specs.Cmp.Lexicographic.{slice_partial_cmp}
 use Rattle.std.proofs.lemmas.Cmp.{same_from_slice_cmp_tested}
 use Rattle.meaning.specs.Value.{less_bytes}
 pub use Rattle.meaning.proofs.Order.{clash, bytes-trans as less-trans, bytes-asym as less-asym, bytes-neither as less-neither}
@@ -32,6 +32,6 @@ from_less a b c h k = go (less_bytes a b) refl
     go false e = subst (λ z. less_bytes z c ≡ true) (less-neither b a h e) k
 
 -- the order of slices is that of their bytes
-pub lex-is : (xs ys : List ℕ) (r : Bool) → Tested (LexSome (λ x y o. IsSomeAnd o (λ k. MatchOrdering k (x < y) (x ≡ y) (y < x))) xs ys) is_lt r → r ≡ less_bytes xs ys
+pub lex-is : (xs ys : List ℕ) (r : Bool) → r ≡ is_some_and is_lt (slice_partial_cmp (λ x y. Some (nat_cmp x y)) xs ys) → r ≡ less_bytes xs ys
 unfolding less_bytes
 lex-is = same_from_slice_cmp_tested nat_cmp is_lt less_bytes refl (λ _ _. refl) (λ _ _. refl) (λ x y xs ys o h. grind (arith, nat_tests))

@@ -5,6 +5,8 @@
 // All that is true of bytes in general stands here, for all crates above: what is meant in specs/Parts.antt and specs/Numbers.antt; the laws of
 // parts and writes in proofs/Parts.antt, of numbers as bytes in proofs/Numbers.antt, of the order in proofs/Order.antt, and in
 // proofs/Compared.antt that numbers as bytes are in the order of numbers.
+#![tactic(auto)]
+
 ghost use Rattle.std.specs.Prelude.{◌≡◌, ◌+◌, ◌<◌, ◌≤◌, length, replicate, slice_index};
 ghost use Rattle.std.specs.Int.Digits.{number_from_digits};
 ghost use Rattle.meaning.specs.Value.{less_bytes};

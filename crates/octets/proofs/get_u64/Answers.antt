@@ -7,10 +7,10 @@ use Rattle.octets.proofs.get_u64.Goals as goal
 
 pub returns : goal.returns
 returns c =
-    let from = 8 - length c.part-of-part.result.now in
-    let last = c.copy-from-slice.new.self in
-    let len : length last ≡ 8 - from = omega (arith, c.copy-from-slice.ensures.len, ap length c.copy-from-slice.ensures.after) in
-    c.from-be-bytes.ensures
+    let from = 8 - length c.part_of-part.result.now in
+    let last = c.copy_from_slice.new.self in
+    let len : length last ≡ 8 - from = omega (arith, c.copy_from_slice.ensures.len, ap length c.copy_from_slice.ensures.after) in
+    c.from_be_bytes.ensures
     ∙ places-number (put_mid from (8 - from) (replicate 8 0) last) (ap length (put_is from (8 - from) (replicate 8 0) last last refl (sym len)) ∙ length-put (replicate 8 0) last from (omega arith))
     ∙ number_behind (replicate 8 0) last from (8 - from) (replicate-at 0 8) (omega arith)
-    ∙ ap (number_from_digits 256) (c.copy-from-slice.ensures.after ∙ c.part-of-part.ensures)
+    ∙ ap (number_from_digits 256) (c.copy_from_slice.ensures.after ∙ c.part_of-part.ensures)

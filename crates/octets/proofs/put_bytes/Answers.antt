@@ -7,5 +7,5 @@ returns-then-at-out c = sym (put_in-not c.args.out.now c.args.bytes.now c.args.a
 
 pub returns : goal.returns
 returns c =
-    put_is c.args.at _ c.args.out.now c.copy-from-slice.new.self c.args.bytes.now (search rules) (omega arith)
+    put_is c.args.at _ c.args.out.now c.copy_from_slice.new.self c.args.bytes.now (search rules) (omega arith)
     ∙ sym (put_in-fits c.args.out.now c.args.bytes.now c.args.at (omega arith))
