@@ -7,7 +7,7 @@ use Rattle.meaning.specs.Text.{k_select, k_from, k_group, k_by, k_order, k_not, 
 use Rattle.grammar.specs.Reader as reader
 use Rattle.grammar.specs.Reader.{gets, refuses, is_sign, is_word, and_then, to_exprs, to_keys}
 use Rattle.grammar.proofs.Tools.{choose_yes, choose_no, then_is, then-refused}
-use Rattle.text.specs.Cut.{tokens_at, name, undoubled, part}
+use Rattle.text.specs.Cut.{tokens_at, undoubled, part}
 use Rattle.text.specs.Stands.{filled, Stands, StandsQuery, folds}
 use Rattle.text.specs.Found.{Read, Aggregates, SaysQuery, StandsPart, SaysPart, level_of, left_of, makes, StandsOrder, SaysKeys}
 use Rattle.text.specs.declared.nodes.Node.TheVariants as node
