@@ -1,18 +1,10 @@
 -- What ends a list or a clause. Assumes nothing.
-use Rattle.std.proofs.Common.{◌≡◌, ℕ, zero, suc, ◌+◌, ◌-◌, ◌*◌, ◌<◌, ◌≤◌, Bool, true, false, cond, not, ◌&&◌, ◌||◌, T, eqb, ltb, leb, List, [], ◌∷◌, ◌++◌, length, pos, sym, refl, ap, ◌∙◌, subst, append_assoc, append-nil, le_refl, arith, length-append}
-use Rattle.std.proofs.lemmas.Bool.{lt-ltb, le-leb, lt-leb}
-use Rattle.meaning.specs.Value as Value
-use Rattle.meaning.specs.Value.{Num}
-use Rattle.meaning.specs.Tree as tree
-use Rattle.meaning.specs.Tree.{Name, Source, Limit, Expr, Exprs, Keys, Query, query, aggregates_any, aggregates_key}
+use Rattle.std.proofs.Common.{◌≡◌, ℕ, ◌<◌, ◌≤◌, false, List, [], ◌∷◌, ◌++◌, length, sym, refl, ap, ◌∙◌, subst, le_refl, arith}
+use Rattle.meaning.specs.Tree.{Expr}
 use Rattle.meaning.specs.Meaning.{same_name, some}
-use Rattle.meaning.specs.Text.{Token, Word, Number, Quoted, Sign, Wrong, plain_name, differs_sign, at_most_sign, at_least_sign, joined_sign, k_select, k_distinct, k_from, k_where, k_group, k_by, k_having, k_order, k_asc, k_desc, k_limit, k_offset, k_and, k_or, k_not, k_is, k_null, k_exists, k_count, k_sum, k_min, k_max}
-use Rattle.meaning.specs.Grammar as g
-use Rattle.meaning.specs.Grammar.{X, Xs, Q, Sources, Limits, Distinct, Wheres, Havings, KeyList, Orders, Aggregates}
-use Rattle.grammar.specs.Reader as reader
-use Rattle.grammar.specs.Reader.{Got, refuses, gets, Reader, and_then, choose, head_is, refuse, past, is_sign, is_word, a_name, a_number, listed, list_of, to_exprs, Key, to_keys, Joint, ends, tests, joins, Operator, operator, operators, joint_in, joint, Part, part, one, null_test, tested, goes, more_of, condition, called, a_source, sources, Groups, groups, direction, a_key, orders, limits, asked, filtered, question, single, one_column, bracket, folded, keyed, column, operand, expr, more, exprs, keys, asks}
-use Rattle.grammar.proofs.Tools.{clash, T_true, then_is, choose_yes, choose_no, listed-one, listed_next, name-fine, number-fine, plain_other}
-use Rattle.grammar.proofs.Climb.{binds, above, Stops, Idle, stops-more, Sound, Sound-joint, Each, in-sound, each, joint-sound, idle-of, idle-next, idle-two, idle-six, not-above, more-stops, more-level, Fine, done, fine-deeper, both-leb, fine-join, is-joint, is-dot, fine-test, is-null, is-no-null}
+use Rattle.meaning.specs.Text.{Token, Word, Sign, k_from, k_where, k_group, k_having, k_order, k_asc, k_desc, k_limit, k_offset}
+use Rattle.grammar.specs.Reader.{refuses, gets, head_is, is_sign, is_word, a_name, ends, joint_in, joint, expr}
+use Rattle.grammar.proofs.Climb.{binds, above, Stops, Idle, Fine, done}
 
 -- the words and signs that end a list or a clause, in the order of the clauses of a query
 pub data Mark : ℕ → Token → Type 0 where

@@ -1,17 +1,16 @@
 -- What the reader finds of operands and queries, the grammar derives. Assumes nothing.
-use Rattle.std.proofs.Common.{◌≡◌, ℕ, zero, suc, ◌+◌, ◌<◌, ◌≤◌, Bool, true, false, cond, not, ◌&&◌, ◌||◌, T, eqb, ltb, leb, ◌⊎◌, List, [], ◌∷◌, ◌++◌, pos, sym, refl, ap, ◌∙◌, subst, inl, inr, append_assoc, append-nil, arith}
-use native.Mathlib.Decide.{le_ind}
-use Rattle.std.proofs.lemmas.Bool.{leb-true, ltb-true, eqb-true, and_parts}
+use Rattle.std.proofs.Common.{◌≡◌, ℕ, zero, suc, ◌<◌, ◌≤◌, Bool, true, false, cond, T, eqb, ltb, leb, ◌⊎◌, List, [], ◌∷◌, ◌++◌, pos, sym, refl, ap, ◌∙◌, subst, inl, inr, append_assoc, arith}
+use Rattle.std.proofs.lemmas.Bool.{leb-true, ltb-true, eqb-true}
 use Rattle.meaning.specs.Value as Value
 use Rattle.meaning.specs.Value.{Num}
 use Rattle.meaning.specs.Tree as tree
 use Rattle.meaning.specs.Tree.{Name, Source, Limit, Expr, Exprs, Keys, Query, query, aggregates_any, aggregates_key}
-use Rattle.meaning.specs.Text.{Token, Word, Number, Quoted, Sign, Wrong, plain_name, differs_sign, at_most_sign, at_least_sign, joined_sign, k_select, k_distinct, k_from, k_where, k_group, k_by, k_having, k_order, k_asc, k_desc, k_limit, k_offset, k_and, k_or, k_not, k_is, k_null, k_exists, k_count, k_sum, k_min, k_max}
+use Rattle.meaning.specs.Text.{Token, Word, Number, Quoted, Sign, Wrong, plain_name, k_select, k_distinct, k_from, k_where, k_group, k_by, k_having, k_order, k_limit, k_offset, k_not, k_null, k_exists, k_count, k_sum, k_min, k_max}
 use Rattle.meaning.specs.Grammar as g
 use Rattle.meaning.specs.Grammar.{X, Xs, Q, Sources, Limits, Distinct, Wheres, Havings, KeyList, Orders, Aggregates}
-use Rattle.grammar.specs.Reader.{Got, refuses, gets, Reader, and_then, choose, head_is, past, is_sign, is_word, a_name, a_number, listed, list_of, to_exprs, Key, to_keys, Joint, ends, tests, joins, Operator, operators, joint_in, joint, Part, part, one, Level, More, null_test, tested, goes, more_of, condition, called, a_source, sources, Groups, groups, direction, a_key, orders, limits, asked, filtered, question, single, one_column, bracket, folded, keyed, column, operand, expr, more, exprs, keys}
-use Rattle.grammar.proofs.Tools.{never, clash, true-T, then-inv, cond-inv, gets-inv, choose-inv, past-sign, past_word, sign-is, word-is, name-same, name-inv, number-inv}
-use Rattle.grammar.proofs.Sound.{Front, lower, listed-inv, SoundX, SoundM, SoundXs, SoundKs, sound_more, sound-exprs, sound-keys}
+use Rattle.grammar.specs.Reader.{Got, refuses, gets, Reader, and_then, choose, past, is_sign, is_word, a_name, a_number, list_of, to_exprs, Key, to_keys, Part, part, one, Level, condition, called, a_source, sources, Groups, groups, orders, limits, asked, filtered, question, single, one_column, bracket, folded, keyed, column, operand, expr, more, exprs, keys}
+use Rattle.grammar.proofs.Tools.{never, clash, true-T, then-inv, cond-inv, gets-inv, choose-inv, past-sign, past_word, sign-is, word-is, name-inv, number-inv}
+use Rattle.grammar.proofs.Sound.{Front, listed-inv, SoundX, SoundM, SoundXs, SoundKs, sound_more, sound-exprs, sound-keys}
 
 regroup : (a b c d r : List Token) → Word k_select ∷ (a ++ (b ++ Word k_from ∷ (c ++ (d ++ r)))) ≡ (Word k_select ∷ (a ++ b ++ Word k_from ∷ (c ++ d))) ++ r
 regroup a b c d r = simp append_assoc

@@ -1,16 +1,14 @@
 -- What the reader finds of expressions and queries, the grammar derives. Assumes nothing.
-use Rattle.std.proofs.Common.{◌≡◌, ℕ, zero, suc, ◌+◌, ◌<◌, ◌≤◌, Bool, true, false, cond, not, ◌&&◌, ◌||◌, T, eqb, ltb, leb, ◌⊎◌, List, [], ◌∷◌, ◌++◌, pos, sym, refl, ap, ◌∙◌, subst, inl, inr, append_assoc, append-nil, arith}
+use Rattle.std.proofs.Common.{◌≡◌, ℕ, suc, ◌<◌, ◌≤◌, Bool, true, false, cond, ◌&&◌, leb, ◌⊎◌, List, [], ◌∷◌, ◌++◌, sym, refl, ap, ◌∙◌, subst, inl, inr, append_assoc, append-nil, arith}
 use native.Mathlib.Decide.{le_ind}
-use Rattle.std.proofs.lemmas.Bool.{leb-true, ltb-true, eqb-true, and_parts}
-use Rattle.meaning.specs.Value as Value
-use Rattle.meaning.specs.Value.{Num}
+use Rattle.std.proofs.lemmas.Bool.{leb-true, and_parts}
 use Rattle.meaning.specs.Tree as tree
 use Rattle.meaning.specs.Tree.{Name, Source, Limit, Expr, Exprs, Keys, Query, query, aggregates_any, aggregates_key}
-use Rattle.meaning.specs.Text.{Token, Word, Number, Quoted, Sign, Wrong, plain_name, differs_sign, at_most_sign, at_least_sign, joined_sign, k_select, k_distinct, k_from, k_where, k_group, k_by, k_having, k_order, k_asc, k_desc, k_limit, k_offset, k_and, k_or, k_not, k_is, k_null, k_exists, k_count, k_sum, k_min, k_max}
+use Rattle.meaning.specs.Text.{Token, Word, Sign, differs_sign, at_most_sign, at_least_sign, joined_sign, k_asc, k_desc, k_and, k_or, k_not, k_is, k_null}
 use Rattle.meaning.specs.Grammar as g
 use Rattle.meaning.specs.Grammar.{X, Xs, Q, Sources, Limits, Distinct, Wheres, Havings, KeyList, Orders, Aggregates}
-use Rattle.grammar.specs.Reader.{Got, refuses, gets, Reader, and_then, choose, head_is, past, is_sign, is_word, a_name, a_number, listed, list_of, to_exprs, Key, to_keys, Joint, ends, tests, joins, Operator, operators, joint_in, joint, Part, part, one, Level, More, null_test, tested, goes, more_of, condition, called, a_source, sources, Groups, groups, direction, a_key, orders, limits, asked, filtered, question, single, one_column, bracket, folded, keyed, column, operand, expr, more, exprs, keys}
-use Rattle.grammar.proofs.Tools.{never, clash, true-T, then-inv, cond-inv, gets-inv, choose-inv, past-sign, past_word, sign-is, word-is, name-same, name-inv, number-inv}
+use Rattle.grammar.specs.Reader.{gets, Reader, and_then, choose, past, is_sign, is_word, listed, to_exprs, Key, to_keys, Joint, ends, tests, joins, Operator, operators, joint_in, joint, Part, part, Level, More, null_test, tested, goes, more_of, direction, a_key}
+use Rattle.grammar.proofs.Tools.{then-inv, gets-inv, choose-inv, past_word, sign-is, word-is}
 
 -- the front of ts before r is what P says
 abbrev pub Front : {A : Type 0} → (List Token → A → Type 0) → List Token → A → List Token → Type 0

@@ -1,16 +1,15 @@
 -- What the grammar derives of statements, the reader finds. Assumes nothing.
-use Rattle.std.proofs.Common.{◌≡◌, ℕ, zero, suc, ◌+◌, ◌<◌, ◌≤◌, Bool, true, false, cond, T, List, [], ◌∷◌, ◌++◌, length, sym, refl, ap, ◌∙◌, subst, append_assoc, append-nil, le_refl, arith, length-append}
+use Rattle.std.proofs.Common.{◌≡◌, ℕ, zero, suc, ◌+◌, ◌<◌, true, false, T, List, [], ◌∷◌, ◌++◌, length, sym, refl, ap, ◌∙◌, subst, append_assoc, append-nil, arith, length-append}
 use Rattle.meaning.specs.Tree as tree
 use Rattle.meaning.specs.Tree.{Name, Col, Set, Expr, Exprs, Query, Statement}
-use Rattle.meaning.specs.Meaning.{same_name, some}
-use Rattle.meaning.specs.Text.{Token, Word, Number, Quoted, Sign, Wrong, plain_name, k_select, k_from, k_where, k_not, k_null, k_create, k_table, k_unique, k_index, k_on, k_drop, k_insert, k_into, k_values, k_update, k_set, k_delete, k_begin, k_commit, k_rollback, k_to, k_savepoint, k_release, k_int, k_text}
+use Rattle.meaning.specs.Meaning.{same_name}
+use Rattle.meaning.specs.Text.{Token, Word, Sign, plain_name, k_where, k_not, k_values}
 use Rattle.meaning.specs.Grammar as g
 use Rattle.meaning.specs.Grammar.{X, Xs, Q, S, OneCol, Cols, Names, RowList, SetList, Wheres}
-use Rattle.grammar.specs.Reader.{Got, refuses, gets, Reader, and_then, choose, head_is, past, is_sign, is_word, a_name, listed, list_of, to_exprs, condition, expr, exprs, keys, asks, question, must, a_col, a_row, a_set, named, in_brackets, create, drop, insert, update, delete, rollback, statement}
+use Rattle.grammar.specs.Reader.{gets, Reader, and_then, choose, head_is, past, is_sign, is_word, a_name, list_of, to_exprs, condition, expr, asks, must, a_col, a_row, a_set, named, in_brackets, create, drop, insert, update, delete, statement}
 use Rattle.grammar.proofs.Tools.{then_is, choose_no, listed-one, listed_next, name-fine}
-use Rattle.grammar.proofs.Climb.{Fine}
-use Rattle.grammar.proofs.Marks.{After, Mark, close_mark, where_mark, Quiet, whole, quiet-comma, quiet-after, after-comma}
-use Rattle.grammar.proofs.Operands.{Selects, selects, FineQ}
+use Rattle.grammar.proofs.Marks.{After, close_mark, Quiet, whole, quiet-comma, quiet-after, after-comma}
+use Rattle.grammar.proofs.Operands.{Selects, selects}
 use Rattle.grammar.proofs.Complete.{fine, fine_xs, fine_w, fine_q}
 
 comma-next : (r : List Token) → Quiet (Sign 44 ∷ r) × (head_is (is_word k_not) (Sign 44 ∷ r) ≡ false)

@@ -1,9 +1,9 @@
 -- The reader's parts, put together and taken apart. Assumes nothing.
-use Rattle.std.proofs.Common.{◌≡◌, ℕ, ◌<◌, Bool, true, false, cond, not, T, eqb, ltb, ◌⊎◌, List, [], ◌∷◌, ◌++◌, sym, refl, ap, ◌∙◌, subst, inl, inr, arith, rules}
+use Rattle.std.proofs.Common.{◌≡◌, ℕ, ◌<◌, Bool, true, false, cond, T, ltb, ◌⊎◌, List, [], ◌∷◌, sym, refl, ap, ◌∙◌, subst, inl, inr, arith, rules}
 use Rattle.std.proofs.lemmas.Bool.{ltb-true, eqb-true, lt-ltb}
 use Rattle.std.proofs.lemmas.Slice.Eq.{compares_Decides}
 use Rattle.meaning.specs.Tree.{Name}
-use Rattle.meaning.specs.Meaning.{same_name, some}
+use Rattle.meaning.specs.Meaning.{same_name}
 use Rattle.meaning.specs.Text.{Token, Word, Number, Quoted, Sign, Wrong, plain_name}
 use Rattle.grammar.specs.Reader.{Got, refuses, gets, Reader, and_then, choose, head_is, tail_of, is_sign, is_word, a_name, a_number, listed}
 

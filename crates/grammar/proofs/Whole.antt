@@ -1,5 +1,5 @@
 -- Whole texts: what the reader finds is a statement, there are no more tokens than bytes, and so the theorems. Assumes nothing.
-use Rattle.std.proofs.Common.{◌≡◌, ℕ, zero, suc, ◌+◌, ◌*◌, ◌<◌, ◌≤◌, Bool, true, false, cond, ◌||◌, T, eqb, ltb, ◌⊎◌, List, [], ◌∷◌, ◌++◌, length, sym, refl, ap, ◌∙◌, subst, inl, inr, append_assoc, append-nil, le_refl, arith, length-append}
+use Rattle.std.proofs.Common.{◌≡◌, ℕ, zero, suc, ◌+◌, ◌*◌, ◌≤◌, Bool, true, false, cond, ◌||◌, T, eqb, ltb, ◌⊎◌, List, [], ◌∷◌, ◌++◌, length, sym, refl, ap, ◌∙◌, subst, inl, inr, append_assoc, append-nil, arith, length-append}
 use Rattle.std.proofs.lemmas.Bool.Decides.{nat_tests}
 use Rattle.meaning.specs.Tree as tree
 use Rattle.meaning.specs.Tree.{Name, Col, Set, Expr, Exprs, Query, Statement}
@@ -7,7 +7,7 @@ use Rattle.meaning.specs.Text as text
 use Rattle.meaning.specs.Text.{Token, Word, Sign, Mode, Between, InWord, InNumber, InQuotes, AfterQuote, AfterLess, AfterMore, AfterBar, tokens, emits, after, ends, enters, gives, letter, digit, is_in, plain_name, k_select, k_from, k_where, k_not, k_null, k_create, k_table, k_unique, k_index, k_on, k_drop, k_insert, k_into, k_values, k_update, k_set, k_delete, k_begin, k_commit, k_rollback, k_to, k_savepoint, k_release, k_int, k_text}
 use Rattle.meaning.specs.Grammar as g
 use Rattle.meaning.specs.Grammar.{S, Cols, OneCol, Names, RowList, SetList, Wheres, Xs, Reads}
-use Rattle.grammar.specs.Reader.{Got, refuses, gets, Reader, and_then, choose, past, is_sign, is_word, a_name, listed, list_of, to_exprs, condition, expr, exprs, keys, asks, must, a_col, a_row, a_set, named, in_brackets, create_table, create_index, create, drop, insert, update, delete, rollback, statement}
+use Rattle.grammar.specs.Reader.{Got, refuses, gets, Reader, and_then, past, is_word, a_name, list_of, condition, expr, exprs, keys, asks, must, a_col, a_row, a_set, named, in_brackets, create_table, create_index, create, drop, insert, update, delete, rollback, statement}
 use Rattle.grammar.specs.Readings.{OneReading, CanTell}
 use Rattle.grammar.proofs.Tools.{never, then-inv, gets-inv, choose-inv, past-sign, past_word, word-is, name-inv}
 use Rattle.grammar.proofs.Sound.{Front, listed-inv}

@@ -1,14 +1,13 @@
 -- What the parts of the reader answer: the same as the reader that is a function of the tokens, with the nodes for it.
-use Rattle.std.specs.Prelude.{◌≡◌, ℕ, zero, suc, ◌+◌, ◌*◌, ◌<◌, ◌≤◌, Bool, true, false, ◌||◌, ◌⊎◌, List, [], ◌∷◌, ◌++◌, map, length, Some, None, Ok, Err, Option, Result}
+use Rattle.std.specs.Prelude.{◌≡◌, ℕ, suc, ◌+◌, ◌*◌, ◌<◌, ◌≤◌, Bool, true, false, ◌⊎◌, List, [], ◌∷◌, ◌++◌, length, Some, None, Ok, Err, Option, Result}
 use Rattle.meaning.specs.Tree as tree
 use Rattle.meaning.specs.Tree.{Name, Source, Limit, Expr, Exprs, Query, Col, Set, Statement, aggregates, aggregates_any, aggregates_key}
 use Rattle.meaning.specs.Text.{Token, Sign, Word, k_select, k_distinct, k_from, k_where, k_group, k_by, k_having, k_order, k_asc, k_desc, k_limit, k_offset, k_and, k_or, k_not, k_is, k_null, k_exists, k_count, k_sum, k_min, k_max, k_create, k_table, k_unique, k_index, k_on, k_drop, k_insert, k_into, k_values, k_update, k_set, k_delete, k_begin, k_commit, k_rollback, k_to, k_savepoint, k_release, k_int, k_text, k_as}
 use Rattle.meaning.specs.Grammar.{Reads}
 use Rattle.grammar.specs.Reader as reader
 use Rattle.grammar.specs.Reader.{Got, refuses, gets, head_is, tail_of, a_name, Key, Joint, ends, tests, joins, joint, to_exprs, to_keys, single, one_column, Groups, null_test, tested}
-use Rattle.text.specs.Cut.{tokens_at, name, decimal, Short, part}
-use Rattle.text.specs.Stands.{filled, At, Stands, StandsExprs, StandsKeys, StandsQuery, StandsSources, StandsLimit, StandsCols, StandsNames, StandsRows, StandsSets, StandsFor, find}
-use Rattle.text.specs.declared.nodes.Span.{Span}
+use Rattle.text.specs.Cut.{tokens_at, name, decimal, Short}
+use Rattle.text.specs.Stands.{filled, Stands, StandsExprs, StandsKeys, StandsQuery, StandsSources, StandsLimit, StandsCols, StandsNames, StandsRows, StandsSets, StandsFor}
 use Rattle.text.specs.declared.nodes.Node.{Node}
 use Rattle.text.specs.declared.nodes.Nodes.{Nodes}
 use Rattle.text.specs.declared.nodes.Statement as made

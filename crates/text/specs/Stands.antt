@@ -1,13 +1,10 @@
 -- What the nodes of a read statement stand for: a relation with the tree, by recursion on the tree.
-use Rattle.std.specs.Prelude.{◌≡◌, ℕ, zero, suc, ◌+◌, ◌*◌, ◌<◌, ◌≤◌, Bool, true, false, ◌||◌, List, [], ◌∷◌, ◌++◌, map, length, take, pos, negsuc, Some, None, vec_items, Option}
+use Rattle.std.specs.Prelude.{◌≡◌, ℕ, zero, suc, ◌<◌, false, List, [], ◌∷◌, take, pos, negsuc, Some, None, vec_items, Option}
 use Rattle.meaning.specs.Value as value
 use Rattle.meaning.specs.Value.{Value, Aggregate}
 use Rattle.meaning.specs.Tree as tree
 use Rattle.meaning.specs.Tree.{Name, Source, Limit, Expr, Exprs, Keys, Query, query, Col, Set, Statement}
-use Rattle.meaning.specs.Text.{Token}
-use Rattle.meaning.specs.Grammar as grammar
-use Rattle.grammar.specs.Reader.{Got, refuses, gets}
-use Rattle.text.specs.Cut.{part, name, undoubled, tokens_at}
+use Rattle.text.specs.Cut.{part, name, undoubled}
 use Rattle.text.specs.declared.nodes.Span.{Span}
 use Rattle.text.specs.declared.nodes.Question.{Question}
 use Rattle.text.specs.declared.nodes.Node.{Node}
@@ -19,7 +16,6 @@ use Rattle.text.specs.declared.nodes.Fold.TheVariants as fold
 use Rattle.text.specs.declared.nodes.Nodes.{Nodes}
 use Rattle.text.specs.declared.nodes.Statement as made
 use Rattle.text.specs.declared.nodes.Statement.TheVariants as statement
-use Rattle.text.specs.declared.tokens.Place.{Place}
 
 -- the nodes that are taken
 abbrev pub filled : Nodes → List Node

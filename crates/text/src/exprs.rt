@@ -4,9 +4,9 @@
 // of `expr`, `operand` and `bracket` alone. No text of 4,096 bytes nests deeper than 4,096 of these. Queries, which expressions hold and
 // which are made of expressions, are read in `queries`.
 ghost use Rattle.grammar.specs.Reader as reader;
-ghost use Rattle.grammar.specs.Reader.{past, is_sign, folded as foldedOf};
+ghost use Rattle.grammar.specs.Reader.{past, is_sign, folded as folded_of};
 ghost use Rattle.text.specs.Cut.{tokens_at, name as name_of};
-ghost use Rattle.text.specs.Stands.{folds as foldsTo};
+ghost use Rattle.text.specs.Stands.{folds as folds_to};
 ghost use Rattle.text.specs.Found.{Ready, Further, ReadsExpr, ReadsPart, ReadsAfter, Tested};
 
 use crate::building::{join, leaf};
@@ -70,7 +70,7 @@ fn tested(nodes: &mut Nodes, text: &[u8], a: Part, at: Place) -> Next
 }
 
 // An expression of a level. The number left falls with each call; one more than there are tokens is enough.
-#[cycle(bracket_count_existence_expr_fold_folded_further_keyed_negation_operand_condition_exprs_groups_keys_orders_question)]
+#[cycle(climb)]
 pub fn expr(nodes: &mut Nodes, text: &[u8], at: Place, level: u8, left: usize) -> Option<Part>
     requires { Ready text.now nodes.old at }
     ensures { ReadsExpr text.now nodes.old nodes.new (tokens_at text.now at) (reader.expr left level (tokens_at text.now at)) result }
@@ -95,7 +95,7 @@ pub fn expr(nodes: &mut Nodes, text: &[u8], at: Place, level: u8, left: usize) -
 }
 
 // What goes on after an expression, by one operator.
-#[cycle(bracket_count_existence_expr_fold_folded_further_keyed_negation_operand_condition_exprs_groups_keys_orders_question)]
+#[cycle(climb)]
 fn further(nodes: &mut Nodes, text: &[u8], a: Part, level: u8, left: usize) -> Next
     requires { Ready text.now nodes.old a.after }
     ensures { Further text.now nodes.old nodes.new level left a result }
@@ -133,7 +133,7 @@ fn further(nodes: &mut Nodes, text: &[u8], a: Part, level: u8, left: usize) -> N
     })
 }
 
-#[cycle(bracket_count_existence_expr_fold_folded_further_keyed_negation_operand_condition_exprs_groups_keys_orders_question)]
+#[cycle(climb)]
 fn operand(nodes: &mut Nodes, text: &[u8], at: Place, level: u8, left: usize) -> Option<Part>
     requires { Ready text.now nodes.old at }
     ensures { ReadsPart text.now nodes.old nodes.new (tokens_at text.now at) (reader.operand (reader.expr left) (reader.exprs left) (reader.keys left) left level (tokens_at text.now at)) result }
@@ -167,7 +167,7 @@ fn operand(nodes: &mut Nodes, text: &[u8], at: Place, level: u8, left: usize) ->
 }
 
 // After an opening bracket: a query of one column, or an expression.
-#[cycle(bracket_count_existence_expr_fold_folded_further_keyed_negation_operand_condition_exprs_groups_keys_orders_question)]
+#[cycle(climb)]
 fn bracket(nodes: &mut Nodes, text: &[u8], at: Place, left: usize) -> Option<Part>
     requires { Ready text.now nodes.old at }
     ensures { ReadsPart text.now nodes.old nodes.new (tokens_at text.now at) (reader.bracket (reader.expr left) (reader.exprs left) (reader.keys left) left (tokens_at text.now at)) result }
@@ -200,7 +200,7 @@ fn bracket(nodes: &mut Nodes, text: &[u8], at: Place, left: usize) -> Option<Par
 }
 
 // What begins with a keyword.
-#[cycle(bracket_count_existence_expr_fold_folded_further_keyed_negation_operand_condition_exprs_groups_keys_orders_question)]
+#[cycle(climb)]
 fn keyed(nodes: &mut Nodes, text: &[u8], at: Place, level: u8, left: usize) -> Option<Part>
     requires { Ready text.now nodes.old at }
     ensures { ReadsPart text.now nodes.old nodes.new (tokens_at text.now at) (reader.keyed (reader.expr left) (reader.exprs left) (reader.keys left) left level (tokens_at text.now at)) result }
@@ -229,7 +229,7 @@ fn keyed(nodes: &mut Nodes, text: &[u8], at: Place, level: u8, left: usize) -> O
     None
 }
 
-#[cycle(bracket_count_existence_expr_fold_folded_further_keyed_negation_operand_condition_exprs_groups_keys_orders_question)]
+#[cycle(climb)]
 fn negation(nodes: &mut Nodes, text: &[u8], at: Place, level: u8, left: usize) -> Option<Part>
     requires { Ready text.now nodes.old at }
     ensures { ReadsAfter text.now nodes.old nodes.new (tokens_at text.now at) (reader.negation level (reader.expr left) (tokens_at text.now at)) result }
@@ -251,7 +251,7 @@ fn negation(nodes: &mut Nodes, text: &[u8], at: Place, level: u8, left: usize) -
 }
 
 // After `exists`.
-#[cycle(bracket_count_existence_expr_fold_folded_further_keyed_negation_operand_condition_exprs_groups_keys_orders_question)]
+#[cycle(climb)]
 fn existence(nodes: &mut Nodes, text: &[u8], at: Place, left: usize) -> Option<Part>
     requires { Ready text.now nodes.old at }
     ensures { ReadsPart text.now nodes.old nodes.new (tokens_at text.now at) (reader.existence (reader.expr left) (reader.exprs left) (reader.keys left) left (tokens_at text.now at)) result }
@@ -269,7 +269,7 @@ fn existence(nodes: &mut Nodes, text: &[u8], at: Place, left: usize) -> Option<P
 }
 
 // After `count`: all rows, or the values that are not null.
-#[cycle(bracket_count_existence_expr_fold_folded_further_keyed_negation_operand_condition_exprs_groups_keys_orders_question)]
+#[cycle(climb)]
 fn count(nodes: &mut Nodes, text: &[u8], at: Place, left: usize) -> Option<Part>
     requires { Ready text.now nodes.old at }
     ensures { ReadsPart text.now nodes.old nodes.new (tokens_at text.now at) (reader.counted (reader.expr left) (tokens_at text.now at)) result }
@@ -294,10 +294,10 @@ fn count(nodes: &mut Nodes, text: &[u8], at: Place, left: usize) -> Option<Part>
 }
 
 // After the word of an aggregate.
-#[cycle(bracket_count_existence_expr_fold_folded_further_keyed_negation_operand_condition_exprs_groups_keys_orders_question)]
+#[cycle(climb)]
 fn fold(nodes: &mut Nodes, text: &[u8], at: Place, by: Fold, left: usize) -> Option<Part>
     requires { Ready text.now nodes.old at }
-    ensures { ReadsPart text.now nodes.old nodes.new (tokens_at text.now at) (past (is_sign 40) (foldedOf (foldsTo by) (reader.expr left)) (tokens_at text.now at)) result }
+    ensures { ReadsPart text.now nodes.old nodes.new (tokens_at text.now at) (past (is_sign 40) (folded_of (folds_to by) (reader.expr left)) (tokens_at text.now at)) result }
 {
     let Some(inside) = take_sign(text, at, 40) else {
         return None;
@@ -306,10 +306,10 @@ fn fold(nodes: &mut Nodes, text: &[u8], at: Place, by: Fold, left: usize) -> Opt
 }
 
 // Within the brackets of an aggregate.
-#[cycle(bracket_count_existence_expr_fold_folded_further_keyed_negation_operand_condition_exprs_groups_keys_orders_question)]
+#[cycle(climb)]
 fn folded(nodes: &mut Nodes, text: &[u8], at: Place, by: Fold, left: usize) -> Option<Part>
     requires { Ready text.now nodes.old at }
-    ensures { ReadsPart text.now nodes.old nodes.new (tokens_at text.now at) (foldedOf (foldsTo by) (reader.expr left) (tokens_at text.now at)) result }
+    ensures { ReadsPart text.now nodes.old nodes.new (tokens_at text.now at) (folded_of (folds_to by) (reader.expr left) (tokens_at text.now at)) result }
 {
     let Some(a) = expr(nodes, text, at, 0, left) else {
         return None;

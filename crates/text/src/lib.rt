@@ -3,6 +3,8 @@
 // `read` gives a statement exactly where the grammar of `meaning` derives one from the bytes, and that one; it stands for it in the nodes,
 // which are made once and are enough for every text of 4,096 bytes. It rests on `grammar`, which shows that a text is at most one
 // statement. Nothing is allocated after `Nodes::new`, and every call ends.
+#![tactic(auto)]
+
 ghost use Rattle.text.specs.Found.{ReadText};
 
 mod building;

@@ -3,7 +3,7 @@ ghost use Rattle.std.specs.Prelude.{◌≡◌, map};
 ghost use Rattle.meaning.specs.Text.{small, keywords};
 ghost use Rattle.meaning.specs.Meaning.{same_name, some};
 ghost use Rattle.grammar.specs.Reader.{is_sign, is_word, head_is};
-ghost use Rattle.text.specs.Cut.{Short, tokens_at, part as part_of};
+ghost use Rattle.text.specs.Cut.{part, Short, tokens_at};
 ghost use Rattle.text.specs.Found.{Taken, NameTaken, NumberTaken, Valued, Linked, SignLinked, level_of, left_of, query_words, expression_words, change_words, other_words};
 
 use crate::nodes::Span;
@@ -74,7 +74,7 @@ pub struct Link {
 
 // The bytes of a part; past the end there are none.
 pub fn bytes_of(text: &[u8], s: Span) -> &[u8]
-    ensures { result.now ≡ part_of text.now s }
+    ensures { result.now ≡ part text.now s }
 {
     part_of(text, s.from as usize, s.len as usize)
 }

@@ -16,13 +16,13 @@ statement-requires c =
     let one = length-take-le 1 (vec_items c.args.nodes.now.nodes) (omega arith) in
     record { short = omega arith; room = omega (arith, one, ap length c.next.ensures, few-tokens b); begun = omega (arith, one) }
 
-pub returns-in-default : goal.returns-in-default
-returns-in-default c = let b = c.args.text.now in let f = length b + 1 in
-    (omega arith, λ st x. never (sym c.in-default.ensures ∙ ap (reader.statement f) c.next.ensures ∙ complete x f (omega (arith, few-tokens b))))
+pub returns-in_default : goal.returns-in_default
+returns-in_default c = let b = c.args.text.now in let f = length b + 1 in
+    (omega arith, λ st x. never (sym c.in_default.ensures ∙ ap (reader.statement f) c.next.ensures ∙ complete x f (omega (arith, few-tokens b))))
 
-pub returns-in-default-tok : goal.returns-in-default-tok
-returns-in-default-tok c = let b = c.args.text.now in let f = length b + 1 in let s = c.in-Some.ensures in
-    (omega arith, λ st x. unended b c.in-Some.said.after.tok c.in-Some.said.after.rest c.in-default-tok.not-End (gets-inv (sym s.1 ∙ ap (reader.statement f) c.next.ensures ∙ complete x f (omega (arith, few-tokens b)))).1)
+pub returns-in_default-tok : goal.returns-in_default-tok
+returns-in_default-tok c = let b = c.args.text.now in let f = length b + 1 in let s = c.in-Some.ensures in
+    (omega arith, λ st x. unended b c.in-Some.said.after.tok c.in-Some.said.after.rest c.in_default-tok.not-End (gets-inv (sym s.1 ∙ ap (reader.statement f) c.next.ensures ∙ complete x f (omega (arith, few-tokens b)))).1)
 
 pub returns : goal.returns
 returns c = let b = c.args.text.now in let f = length b + 1 in let s = c.in-Some.ensures in

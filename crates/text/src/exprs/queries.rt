@@ -13,7 +13,7 @@ use crate::tokens::Place;
 use crate::words::{take_key, take_sign};
 
 // A list of expressions.
-#[cycle(bracket_count_existence_expr_fold_folded_further_keyed_negation_operand_condition_exprs_groups_keys_orders_question)]
+#[cycle(climb)]
 pub fn exprs(nodes: &mut Nodes, text: &[u8], at: Place, left: usize) -> Option<Part>
     requires { Ready text.now nodes.old at }
     ensures { ReadsExprs text.now nodes.old nodes.new (tokens_at text.now at) (reader.exprs left (tokens_at text.now at)) result }
@@ -65,7 +65,7 @@ fn direction(text: &[u8], at: Place) -> Way
 }
 
 // A list of keys to sort by.
-#[cycle(bracket_count_existence_expr_fold_folded_further_keyed_negation_operand_condition_exprs_groups_keys_orders_question)]
+#[cycle(climb)]
 fn keys(nodes: &mut Nodes, text: &[u8], at: Place, left: usize) -> Option<Part>
     requires { Ready text.now nodes.old at }
     ensures { ReadsKeys text.now nodes.old nodes.new (tokens_at text.now at) (reader.keys left (tokens_at text.now at)) result }
@@ -101,7 +101,7 @@ fn keys(nodes: &mut Nodes, text: &[u8], at: Place, left: usize) -> Option<Part>
 }
 
 // An expression after a word; 1, which always holds, where the word is missing.
-#[cycle(bracket_count_existence_expr_fold_folded_further_keyed_negation_operand_condition_exprs_groups_keys_orders_question)]
+#[cycle(climb)]
 pub fn condition(
     nodes: &mut Nodes,
     text: &[u8],
@@ -119,7 +119,7 @@ pub fn condition(
 }
 
 // group by and having, or no groups.
-#[cycle(bracket_count_existence_expr_fold_folded_further_keyed_negation_operand_condition_exprs_groups_keys_orders_question)]
+#[cycle(climb)]
 fn groups(nodes: &mut Nodes, text: &[u8], at: Place, left: usize) -> Option<Grouping>
     requires { Ready text.now nodes.old at }
     ensures { ReadsGroups text.now nodes.old nodes.new (tokens_at text.now at) (reader.groups (reader.expr left) (reader.exprs left) (tokens_at text.now at)) result }
@@ -151,7 +151,7 @@ fn groups(nodes: &mut Nodes, text: &[u8], at: Place, left: usize) -> Option<Grou
 }
 
 // order by, or no keys.
-#[cycle(bracket_count_existence_expr_fold_folded_further_keyed_negation_operand_condition_exprs_groups_keys_orders_question)]
+#[cycle(climb)]
 fn orders(nodes: &mut Nodes, text: &[u8], at: Place, left: usize) -> Option<Part>
     requires { Ready text.now nodes.old at }
     ensures { ReadsKeys text.now nodes.old nodes.new (tokens_at text.now at) (reader.orders (reader.keys left) (tokens_at text.now at)) result }
@@ -172,7 +172,7 @@ fn orders(nodes: &mut Nodes, text: &[u8], at: Place, left: usize) -> Option<Part
 }
 
 // A query.
-#[cycle(bracket_count_existence_expr_fold_folded_further_keyed_negation_operand_condition_exprs_groups_keys_orders_question)]
+#[cycle(climb)]
 pub fn question(nodes: &mut Nodes, text: &[u8], at: Place, left: usize) -> Option<Part>
     requires { Ready text.now nodes.old at }
     ensures { ReadsQuery text.now nodes.old nodes.new (tokens_at text.now at) (asks left (tokens_at text.now at)) result }

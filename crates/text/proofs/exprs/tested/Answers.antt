@@ -11,8 +11,8 @@ use Rattle.text.proofs.Stood.{pushed, kept, grown-on}
 use Rattle.text.proofs.Steps.{taken-length}
 use Rattle.text.proofs.exprs.tested.Goals as goal
 
-pub returns-in-default-take-key : goal.returns-in-default-take-key
-returns-in-default-take-key c = choose_yes (is_word k_not) _ _ _ _ c.in-Some.ensures.0 c.in-Some.ensures.1 ∙ choose_no (is_word k_null) _ _ _ c.in-default-take-key.ensures
+pub returns-in_default-take_key : goal.returns-in_default-take_key
+returns-in_default-take_key c = choose_yes (is_word k_not) _ _ _ _ c.in-Some.ensures.0 c.in-Some.ensures.1 ∙ choose_no (is_word k_null) _ _ _ c.in_default-take_key.ensures
 
 pub push-node-requires : goal.push-node-requires
 push-node-requires c = let n = pushed c.args.nodes.now c.push-null.new.self _ _ c.push-null.ensures in omega (arith, n.more, c.requires.room)
@@ -27,9 +27,9 @@ returns-in-Some c =
     let n = pushed T U _ _ c.push-null.ensures in
     let m = pushed U V _ _ c.push-node.ensures in
     let l1 = taken-length (is_word k_not) (tokens_at b c.args.at) (tokens_at b c.in-Some.not) c.in-Some.ensures.0 c.in-Some.ensures.1 in
-    let l2 = taken-length (is_word k_null) (tokens_at b c.in-Some.not) (tokens_at b c.in-Some-take-key.after) c.in-Some-take-key.ensures.0 c.in-Some-take-key.ensures.1 in (
+    let l2 = taken-length (is_word k_null) (tokens_at b c.in-Some.not) (tokens_at b c.in-Some-take_key.after) c.in-Some-take_key.ensures.0 c.in-Some-take_key.ensures.1 in (
       true,
-      choose_yes (is_word k_not) _ _ _ _ c.in-Some.ensures.0 c.in-Some.ensures.1 ∙ choose_yes (is_word k_null) _ _ _ _ c.in-Some-take-key.ensures.0 c.in-Some-take-key.ensures.1,
+      choose_yes (is_word k_not) _ _ _ _ c.in-Some.ensures.0 c.in-Some.ensures.1 ∙ choose_yes (is_word k_null) _ _ _ _ c.in-Some-take_key.ensures.0 c.in-Some-take_key.ensures.1,
       record {
         grown = grown-on (filled T) (filled U) (filled V) n.grown m.grown;
         few = omega (arith, n.more, m.more);
@@ -46,8 +46,8 @@ returns-in-Some c =
       },
     )
 
-pub returns-in-default-take-key-2 : goal.returns-in-default-take-key-2
-returns-in-default-take-key-2 c = choose_no (is_word k_not) _ _ _ c.in-default.ensures ∙ choose_no (is_word k_null) _ _ _ c.in-default-take-key-2.ensures
+pub returns-in_default-take_key-2 : goal.returns-in_default-take_key-2
+returns-in_default-take_key-2 c = choose_no (is_word k_not) _ _ _ c.in_default.ensures ∙ choose_no (is_word k_null) _ _ _ c.in_default-take_key-2.ensures
 
 pub returns : goal.returns
 unfolding aggregates
@@ -56,9 +56,9 @@ returns c =
     let T = c.args.nodes.now in
     let U = c.push-node-2.new.self in
     let n = pushed T U _ _ c.push-node-2.ensures in
-    let l1 = taken-length (is_word k_null) (tokens_at b c.args.at) (tokens_at b c.in-Some-take-key-2.after) c.in-Some-take-key-2.ensures.0 c.in-Some-take-key-2.ensures.1 in (
+    let l1 = taken-length (is_word k_null) (tokens_at b c.args.at) (tokens_at b c.in-Some-take_key-2.after) c.in-Some-take_key-2.ensures.0 c.in-Some-take_key-2.ensures.1 in (
       false,
-      choose_no (is_word k_not) _ _ _ c.in-default.ensures ∙ choose_yes (is_word k_null) _ _ _ _ c.in-Some-take-key-2.ensures.0 c.in-Some-take-key-2.ensures.1,
+      choose_no (is_word k_not) _ _ _ c.in_default.ensures ∙ choose_yes (is_word k_null) _ _ _ _ c.in-Some-take_key-2.ensures.0 c.in-Some-take_key-2.ensures.1,
       record {
         grown = n.grown;
         few = omega (arith, n.more);

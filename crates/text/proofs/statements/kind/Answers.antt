@@ -7,8 +7,8 @@ use Rattle.text.proofs.statements.kind.Goals as goal
 pub returns-in-Some : goal.returns-in-Some
 returns-in-Some c = choose_yes (is_word k_int) _ _ _ _ c.in-Some.ensures.0 c.in-Some.ensures.1
 
-pub returns-in-default-take-key : goal.returns-in-default-take-key
-returns-in-default-take-key c = choose_no (is_word k_int) _ _ _ c.in-default.ensures ∙ choose_no (is_word k_text) _ _ _ c.in-default-take-key.ensures
+pub returns-in_default-take_key : goal.returns-in_default-take_key
+returns-in_default-take_key c = choose_no (is_word k_int) _ _ _ c.in_default.ensures ∙ choose_no (is_word k_text) _ _ _ c.in_default-take_key.ensures
 
 pub returns : goal.returns
-returns c = choose_no (is_word k_int) _ _ _ c.in-default.ensures ∙ choose_yes (is_word k_text) _ _ _ _ c.in-Some-take-key.ensures.0 c.in-Some-take-key.ensures.1
+returns c = choose_no (is_word k_int) _ _ _ c.in_default.ensures ∙ choose_yes (is_word k_text) _ _ _ _ c.in-Some-take_key.ensures.0 c.in-Some-take_key.ensures.1

@@ -4,11 +4,11 @@ use Rattle.grammar.specs.Reader.{is_word}
 use Rattle.grammar.proofs.Tools.{choose_yes, choose_no}
 use Rattle.text.proofs.statements.must.Goals as goal
 
-pub returns-in-default : goal.returns-in-default
-returns-in-default c = choose_no (is_word k_not) _ _ _ c.in-default.ensures
+pub returns-in_default : goal.returns-in_default
+returns-in_default c = choose_no (is_word k_not) _ _ _ c.in_default.ensures
 
-pub returns-in-default-take-key : goal.returns-in-default-take-key
-returns-in-default-take-key c = choose_yes (is_word k_not) _ _ _ _ c.in-Some.ensures.0 c.in-Some.ensures.1 ∙ choose_no (is_word k_null) _ _ _ c.in-default-take-key.ensures
+pub returns-in_default-take_key : goal.returns-in_default-take_key
+returns-in_default-take_key c = choose_yes (is_word k_not) _ _ _ _ c.in-Some.ensures.0 c.in-Some.ensures.1 ∙ choose_no (is_word k_null) _ _ _ c.in_default-take_key.ensures
 
 pub returns : goal.returns
-returns c = choose_yes (is_word k_not) _ _ _ _ c.in-Some.ensures.0 c.in-Some.ensures.1 ∙ choose_yes (is_word k_null) _ _ _ _ c.in-Some-take-key.ensures.0 c.in-Some-take-key.ensures.1
+returns c = choose_yes (is_word k_not) _ _ _ _ c.in-Some.ensures.0 c.in-Some.ensures.1 ∙ choose_yes (is_word k_null) _ _ _ _ c.in-Some-take_key.ensures.0 c.in-Some-take_key.ensures.1

@@ -1,6 +1,5 @@
-use Rattle.std.proofs.Common.{◌≡◌, length, get_or, sym, refl, ap, ◌∙◌, arith, rules}
-use Rattle.std.proofs.lemmas.List.{take_rest, get_or_past}
-use Rattle.text.proofs.Cuts as cuts
+use Rattle.std.proofs.Common.{sym}
+use Rattle.std.proofs.lemmas.List.{get_or_past}
 use Rattle.text.proofs.tokens.byte_at.Goals as goal
 
 pub returns-else-i-s : goal.returns-else-i-s

@@ -3,18 +3,18 @@ use Rattle.std.proofs.lemmas.Bool.Decides.{nat_tests}
 use Rattle.meaning.specs.Text.{is_in}
 use Rattle.text.proofs.tokens.is_space.Goals as goal
 
-pub returns-in-default : goal.returns-in-default
+pub returns-in_default : goal.returns-in_default
 unfolding is_in
-returns-in-default c = grind (arith, nat_tests)
+returns-in_default c = grind (arith, nat_tests)
 
-pub returns-in-default·2 : goal.returns-in-default·2
+pub returns-in_default-2 : goal.returns-in_default-2
 unfolding is_in
-returns-in-default·2 c = grind (arith, nat_tests)
+returns-in_default-2 c = grind (arith, nat_tests)
 
 pub returns-in-32 : goal.returns-in-32
 unfolding is_in
 returns-in-32 c = grind (arith, nat_tests)
 
-pub returns-in-32·2 : goal.returns-in-32·2
+pub returns-in-32-2 : goal.returns-in-32-2
 unfolding is_in
-returns-in-32·2 c = grind (arith, nat_tests)
+returns-in-32-2 c = grind (arith, nat_tests)

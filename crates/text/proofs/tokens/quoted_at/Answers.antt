@@ -5,8 +5,8 @@ use Rattle.text.specs.Cut.{undoubled}
 use Rattle.text.proofs.Cuts as cuts
 use Rattle.text.proofs.tokens.quoted_at.Goals as goal
 
-pub returns-in-default : goal.returns-in-default
-returns-in-default c = cuts.open-cut c.args.text.now c.args.at c.requires.1.0 c.requires.1.1 (simp take_rest at c.in-default.ensures)
+pub returns-in_default : goal.returns-in_default
+returns-in_default c = cuts.open-cut c.args.text.now c.args.at c.requires.1.0 c.requires.1.1 (simp take_rest at c.in_default.ensures)
 
 pub returns : goal.returns
 returns c = let bs = c.args.text.now in

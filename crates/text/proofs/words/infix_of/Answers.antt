@@ -44,5 +44,5 @@ pub returns-in-42 : goal.returns-in-42
 unfolding joint joint_in is_word is_sign
 returns-in-42 c = ap (λ s. joint (Sign s)) c.in-42.is
 
-pub returns-in-default : goal.returns-in-default
-returns-in-default c = no-infix c.args.sign (omega arith) (omega arith) (omega arith) (omega arith) (omega arith) (omega arith) (omega arith) (omega arith) (omega arith) (omega arith)
+pub returns-in_default : goal.returns-in_default
+returns-in_default c = no-infix c.args.sign (omega arith) (omega arith) (omega arith) (omega arith) (omega arith) (omega arith) (omega arith) (omega arith) (omega arith) (omega arith)

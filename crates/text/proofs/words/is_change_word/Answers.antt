@@ -5,4 +5,4 @@ use Rattle.text.proofs.words.is_change_word.Goals as goal
 
 pub returns : goal.returns
 unfolding some
-returns c = λ i. c.is-key-is-create.ensures i || (c.is-key-is-table.ensures i || (c.is-key-is-unique.ensures i || (c.is-key-is-index.ensures i || (c.is-key-is-on.ensures i || (c.is-key-is-drop.ensures i || (c.is-key-is-insert.ensures i || (c.is-key-is-into.ensures i || (c.is-key-is-values.ensures i || (c.is-key-is-update.ensures i || (c.is-key-is-set.ensures i || ((c.is-key-is-delete.ensures ∙ sym (or-false _)) i)))))))))))
+returns c = λ i. c.is_key-is_create.ensures i || (c.is_key-is_table.ensures i || (c.is_key-is_unique.ensures i || (c.is_key-is_index.ensures i || (c.is_key-is_on.ensures i || (c.is_key-is_drop.ensures i || (c.is_key-is_insert.ensures i || (c.is_key-is_into.ensures i || (c.is_key-is_values.ensures i || (c.is_key-is_update.ensures i || (c.is_key-is_set.ensures i || ((c.is_key-is_delete.ensures ∙ sym (or-false _)) i)))))))))))

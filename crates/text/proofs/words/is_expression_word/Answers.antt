@@ -5,4 +5,4 @@ use Rattle.text.proofs.words.is_expression_word.Goals as goal
 
 pub returns : goal.returns
 unfolding some
-returns c = λ i. c.is-key-is-and.ensures i || (c.is-key-is-or.ensures i || (c.is-key-is-not.ensures i || (c.is-key-is-is.ensures i || (c.is-key-is-null.ensures i || (c.is-key-is-exists.ensures i || (c.is-key-is-count.ensures i || (c.is-key-is-sum.ensures i || (c.is-key-is-min.ensures i || ((c.is-key-is-max.ensures ∙ sym (or-false _)) i)))))))))
+returns c = λ i. c.is_key-is_and.ensures i || (c.is_key-is_or.ensures i || (c.is_key-is_not.ensures i || (c.is_key-is_is.ensures i || (c.is_key-is_null.ensures i || (c.is_key-is_exists.ensures i || (c.is_key-is_count.ensures i || (c.is_key-is_sum.ensures i || (c.is_key-is_min.ensures i || ((c.is_key-is_max.ensures ∙ sym (or-false _)) i)))))))))

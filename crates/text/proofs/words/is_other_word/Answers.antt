@@ -5,4 +5,4 @@ use Rattle.text.proofs.words.is_other_word.Goals as goal
 
 pub returns : goal.returns
 unfolding some
-returns c = λ i. c.is-key-is-begin.ensures i || (c.is-key-is-commit.ensures i || (c.is-key-is-rollback.ensures i || (c.is-key-is-to.ensures i || (c.is-key-is-savepoint.ensures i || (c.is-key-is-release.ensures i || (c.is-key-is-int.ensures i || (c.is-key-is-text.ensures i || ((c.is-key-is-as.ensures ∙ sym (or-false _)) i))))))))
+returns c = λ i. c.is_key-is_begin.ensures i || (c.is_key-is_commit.ensures i || (c.is_key-is_rollback.ensures i || (c.is_key-is_to.ensures i || (c.is_key-is_savepoint.ensures i || (c.is_key-is_release.ensures i || (c.is_key-is_int.ensures i || (c.is_key-is_text.ensures i || ((c.is_key-is_as.ensures ∙ sym (or-false _)) i))))))))

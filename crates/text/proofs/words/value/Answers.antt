@@ -12,7 +12,7 @@ returns-then-v-ge922337203685477581 c =
 pub loop-b-preserved : goal.loop-b-preserved
 loop-b-preserved c =
     let ds = c.args.digits.now in
-    ap (λ n. decimal (10 * c.loop-b.v + n) (drop (c.loop-b.b-index + 1) ds)) c.saturating-sub.ensures ∙ sym (decimal-more c.loop-b.v ds c.loop-b.b-index c.loop-b-test.true) ∙ c.loop-b.invariant
+    ap (λ n. decimal (10 * c.loop-b.v + n) (drop (c.loop-b.b-index + 1) ds)) c.saturating_sub.ensures ∙ sym (decimal-more c.loop-b.v ds c.loop-b.b-index c.loop-b-test.true) ∙ c.loop-b.invariant
 
 pub returns-then-v-lt9223372036854775808 : goal.returns-then-v-lt9223372036854775808
 returns-then-v-lt9223372036854775808 c = (sym (decimal-all c.loop-b.v c.args.digits.now c.loop-b.b-index c.loop-b-test.false) ∙ c.loop-b.invariant, omega arith)

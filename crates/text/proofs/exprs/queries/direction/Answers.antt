@@ -7,8 +7,8 @@ use Rattle.text.proofs.exprs.queries.direction.Goals as goal
 pub returns-in-Some : goal.returns-in-Some
 returns-in-Some c = choose_yes (is_word k_asc) _ _ _ _ c.in-Some.ensures.0 c.in-Some.ensures.1
 
-pub returns-in-Some-take-key : goal.returns-in-Some-take-key
-returns-in-Some-take-key c = choose_no (is_word k_asc) _ _ _ c.in-default.ensures ∙ choose_yes (is_word k_desc) _ _ _ _ c.in-Some-take-key.ensures.0 c.in-Some-take-key.ensures.1
+pub returns-in-Some-take_key : goal.returns-in-Some-take_key
+returns-in-Some-take_key c = choose_no (is_word k_asc) _ _ _ c.in_default.ensures ∙ choose_yes (is_word k_desc) _ _ _ _ c.in-Some-take_key.ensures.0 c.in-Some-take_key.ensures.1
 
 pub returns : goal.returns
-returns c = choose_no (is_word k_asc) _ _ _ c.in-default.ensures ∙ choose_no (is_word k_desc) _ _ _ c.in-default-take-key.ensures
+returns c = choose_no (is_word k_asc) _ _ _ c.in_default.ensures ∙ choose_no (is_word k_desc) _ _ _ c.in_default-take_key.ensures

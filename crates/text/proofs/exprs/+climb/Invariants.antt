@@ -1,6 +1,6 @@
 use Rattle.std.proofs.Common.{◌+◌, ◌*◌}
 use Rattle.text.proofs.Turns.{Turning}
-use Rattle.text.proofs.exprs.+bracket_count_existence_expr_fold_folded_further_keyed_negation_operand_condition_exprs_groups_keys_orders_question.Given as goal
+use Rattle.text.proofs.exprs.+climb.Given as goal
 
 abbrev pub decreases-bracket : goal.decreases-bracket
 decreases-bracket l = 8 * l.left + 4
