@@ -6,7 +6,7 @@ mod drive;
 mod model;
 
 use device::vector::Vector;
-use device::{Layer, Over, Store};
+use device::{Over, Store};
 use drive::Asks;
 use model::{Model, PAGES};
 use pager::Pager;
