@@ -1,15 +1,16 @@
-# make run: a blank device file, if there is none, and tables on it.   make test: everything from nothing, the merge gate.
+# make run: a blank device file, if there is none, and tables on it.   make test: the merge gate.
 DEVICE ?= device
 SIZE ?= 64M
+TABLES = crates/tables/out/tables
 
 .PHONY: run test
 
-run: target/bin/tables
+run: $(TABLES)
 	@test -e $(DEVICE) || truncate -s $(SIZE) $(DEVICE)
-	@target/bin/tables $(DEVICE)
+	@$(TABLES) $(DEVICE)
 
-target/bin/tables: $(shell find crates -name '*.rt')
+$(TABLES): crates.txt $(shell find crates -name '*.rt' -not -path '*/out/*')
 	@rt check tables >/dev/null
 
 test:
-	@rt ci
+	@.ci/run
