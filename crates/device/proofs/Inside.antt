@@ -1,7 +1,6 @@
 -- What is promised of a store is promised of a struct that holds it.
-use Rattle.std.proofs.Common.{◌≡◌, ℕ, List, sym, refl, subst}
-use Rattle.device.specs.declared.Ask.{Ask}
-use Rattle.device.specs.Device.{With, Engine, Event, World, off, rising, idle, busy, Trace, begin, powered, rises, risen, rising_cut, starts, goes_on, replies, busy_cut, idle_cut, Judge}
+use Rattle.std.proofs.Common.{◌≡◌, ℕ, List, refl, subst}
+use Rattle.device.specs.Device.{Engine, Event, World, off, rising, idle, busy, Trace, begin, powered, rises, risen, rising_cut, starts, goes_on, replies, busy_cut, idle_cut, Judge}
 use Rattle.device.specs.Runs.{Mode, Runs, opened, called, asked, replied, Halts, halts, Whole}
 use Rattle.device.specs.Inside.{inside}
 

@@ -1,5 +1,4 @@
 -- A store that is held in a struct, under a name of the struct's own.
-use Rattle.std.specs.Prelude.{ℕ}
 use Rattle.device.specs.Device.{Engine}
 
 -- the store that f finds in a struct

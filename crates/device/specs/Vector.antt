@@ -1,6 +1,6 @@
 -- The device that a vector holds.
-use Rattle.std.specs.Prelude.{◌≡◌, ℕ, ◌-◌, ◌<◌, ◌≤◌, Bool, true, false, cond, ◌⊎◌, List, [], ◌∷◌, ◌++◌, length, take, replicate, vec_items, vec_len, ◌==◌, slice_index_or}
-use Rattle.device.specs.Device.{Device, zeros, shown}
+use Rattle.std.specs.Prelude.{◌≡◌, ℕ, ◌-◌, ◌<◌, ◌≤◌, cond, ◌⊎◌, List, [], ◌∷◌, ◌++◌, length, take, replicate, vec_items, vec_len, ◌==◌, slice_index_or}
+use Rattle.device.specs.Device.{Device, zeros}
 use Rattle.device.specs.declared.vector.Written.{Written}
 use Rattle.device.specs.declared.vector.Vector.{Vector}
 

@@ -1,13 +1,12 @@
 -- What adding an entry to a page leaves, and what it makes.
-use Rattle.std.proofs.Common.{◌≡◌, ℕ, zero, suc, ◌+◌, ◌-◌, ◌*◌, ◌/◌, ◌%◌, ◌<◌, ◌≤◌, min, ◌≢◌, ◌⊎◌, List, [], ◌∷◌, ◌++◌, length, get_or, take, drop, set, replicate, sym, refl, ap, ◌∙◌, subst, inl, inr, add-one, arith, length-append, length-set, get_or-set_other, get_or-set_same, rules}
+use Rattle.std.proofs.Common.{◌≡◌, ℕ, zero, suc, ◌+◌, ◌-◌, ◌*◌, ◌/◌, ◌%◌, ◌<◌, ◌≤◌, min, ◌≢◌, ◌⊎◌, List, [], ◌∷◌, ◌++◌, length, get_or, set, replicate, sym, refl, ap, ◌∙◌, subst, inl, inr, add-one, arith, length-append, length-set, get_or-set_other, get_or-set_same}
 use lib.ListN.{length-replicate}
-use Rattle.std.proofs.lemmas.List.{same_lists, places}
+use Rattle.std.proofs.lemmas.List.{places}
 use Rattle.octets.specs.Parts.{part, put, pair, pair_of}
 use Rattle.octets.proofs.Parts.{length-put, put-put, get_or-before, get_or-behind, get_or-inside, part-from, part-agrees, zeros-at}
-use Rattle.tree.specs.Entries.{Entry}
 use Rattle.std.proofs.lemmas.Bool.{cases_lt}
 use Rattle.node.proofs.Places.{starts-rise, start_first, start-later, start-least}
-use Rattle.node.specs.Node.{count_in, start_of, key_len, key_at, value_at, entry_at, entries_to, entries_in, Formed, Cleared, Written, Added}
+use Rattle.node.specs.Node.{count_in, start_of, key_len, key_at, value_at, entry_at, entries_to, Formed, Cleared, Written, Added}
 
 -- the bytes of an entry
 abbrev item : List ℕ → List ℕ → List ℕ

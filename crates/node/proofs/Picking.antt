@@ -1,12 +1,12 @@
 -- Where the keys of a page rise, what a look at the list of its entries finds stands at a place that halving gives.
-use Rattle.std.proofs.Common.{◌≡◌, ℕ, zero, suc, ◌+◌, ◌-◌, ◌<◌, ◌≤◌, Bool, true, false, cond, not, ltb, ◌⊎◌, List, [], ◌∷◌, ◌++◌, sym, refl, ap, ◌∙◌, subst, inl, inr, add-one, arith}
+use Rattle.std.proofs.Common.{◌≡◌, ℕ, zero, suc, ◌+◌, ◌-◌, ◌<◌, ◌≤◌, Bool, true, false, cond, not, ltb, List, [], ◌∷◌, ◌++◌, sym, refl, ap, ◌∙◌, subst, inl, inr, arith}
 use Rattle.std.proofs.lemmas.Bool.{cases_lt, lt-ltb, le-ltb}
 use Rattle.std.proofs.lemmas.Bool.Decides.{nat_tests}
 use Rattle.meaning.specs.Value.{less_bytes}
-use Rattle.tree.specs.Entries.{Entry, Reply, Nothing, Found, first_from, last_before}
-use Rattle.tree.specs.Look.{pick, pick_under, child, next_above, next_in}
-use Rattle.node.specs.Node.{count_in, key_at, value_at, entry_at, entries_to, entries_from, entries_in, Parted}
-use Rattle.node.specs.Look.{key_from, found_at, Picked}
+use Rattle.tree.specs.Entries.{Entry}
+use Rattle.tree.specs.Look.{pick, child, next_above, next_in}
+use Rattle.node.specs.Node.{count_in, key_at, entry_at, entries_to, entries_from, entries_in, Parted}
+use Rattle.node.specs.Look.{key_from, Picked}
 
 -- the key just above one is the key with a 0 behind it
 less-succ : (x k : List ℕ) → less_bytes x (k ++ (0 ∷ [])) ≡ not (less_bytes k x)

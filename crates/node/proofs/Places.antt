@@ -1,6 +1,6 @@
 -- Where the entries of a page lie.
-use Rattle.std.proofs.Common.{◌≡◌, ℕ, zero, suc, ◌+◌, ◌-◌, ◌*◌, ◌<◌, ◌≤◌, false, eqb, ◌⊎◌, List, [], ◌∷◌, ◌++◌, length, sym, refl, ap, ◌∙◌, subst, inl, inr, add-one, arith, ne_eqb}
-use Rattle.node.specs.Node.{count_in, start_of, key_len, key_at, value_at, Formed}
+use Rattle.std.proofs.Common.{◌≡◌, ℕ, zero, suc, ◌+◌, ◌-◌, ◌*◌, ◌<◌, ◌≤◌, false, eqb, List, sym, refl, ap, ◌∙◌, subst, arith, ne_eqb}
+use Rattle.node.specs.Node.{start_of, key_len, value_at, Formed}
 use Rattle.octets.specs.Parts.{part, pair}
 
 -- starts rise, by two at least

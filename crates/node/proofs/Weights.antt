@@ -1,13 +1,11 @@
 -- A page's entries weigh what the page says it uses.
-use Rattle.std.proofs.Common.{◌≡◌, ℕ, zero, suc, ◌+◌, ◌-◌, ◌*◌, ◌<◌, ◌≤◌, List, [], ◌∷◌, ◌++◌, length, sym, refl, ap, ◌∙◌, subst, add-one, arith}
-use Rattle.octets.specs.Parts.{part}
+use Rattle.std.proofs.Common.{◌≡◌, ℕ, zero, suc, ◌+◌, ◌-◌, ◌*◌, ◌<◌, ◌≤◌, List, [], ◌∷◌, ◌++◌, ap, add-one, arith}
 use Rattle.octets.proofs.Parts.{length_part}
-use Rattle.tree.specs.Entries.{Entry}
-use Rattle.tree.specs.Pages.{Page, weigh}
+use Rattle.tree.specs.Pages.{weigh}
 use Rattle.tree.specs.Bytes.{taken}
 use Rattle.tree.proofs.Joins.{weigh-append}
-use Rattle.node.specs.Node.{count_in, start_of, key_len, key_at, value_at, entry_at, entries_to, entries_in, used_by, Formed}
-use Rattle.node.proofs.Places.{starts-rise, start_first, start-least, start-most}
+use Rattle.node.specs.Node.{count_in, start_of, key_len, entry_at, entries_to, entries_in, used_by, Formed}
+use Rattle.node.proofs.Places.{start_first, start-least, start-most}
 
 module _ (page : List ℕ) (n : ℕ) (f : Formed page n) where
   one : (i : ℕ) → i < n → taken (entry_at page i) + (start_of page i + 2 * i) ≡ start_of page (i + 1) + 2 * (i + 1)

@@ -1,5 +1,5 @@
 -- Pages of a level as they are made anew.
-use Rattle.std.specs.Prelude.{◌≡◌, ℕ, zero, suc, ◌+◌, ◌-◌, ◌<◌, ◌≤◌, Bool, true, false, cond, List, [], ◌∷◌, ◌++◌, length, vec_items, vec_len, nat_le, nat_lt, slice_index_or}
+use Rattle.std.specs.Prelude.{◌≡◌, ℕ, zero, suc, ◌+◌, ◌-◌, ◌<◌, ◌≤◌, Bool, true, false, cond, List, [], ◌∷◌, ◌++◌, vec_items, nat_le, nat_lt, slice_index_or}
 use Rattle.tree.specs.Entries.{Entry}
 use Rattle.tree.specs.Pages.{Page, weigh}
 use Rattle.tree.specs.Bytes.{taken}

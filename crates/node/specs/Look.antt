@@ -1,7 +1,7 @@
 -- Looking for a key in a page: which entry leads on, and what is found.
-use Rattle.std.specs.Prelude.{◌≡◌, ℕ, ◌+◌, ◌-◌, ◌<◌, ◌≤◌, cond, List, [], ◌∷◌, ◌++◌, nat_lt}
-use Rattle.tree.specs.Entries.{Entry, Reply, Nothing, Found, first_from, last_before}
-use Rattle.tree.specs.Look.{pick, pick_under, child, next_in}
+use Rattle.std.specs.Prelude.{◌≡◌, ℕ, ◌+◌, ◌<◌, cond, List, [], ◌∷◌, nat_lt}
+use Rattle.tree.specs.Entries.{Reply, Nothing, Found}
+use Rattle.tree.specs.Look.{pick, child, next_in}
 use Rattle.node.specs.Node.{count_in, key_at, value_at, entry_at, entries_in}
 
 -- the key of an entry, if the page has it

@@ -1,5 +1,7 @@
 // A node: a page of the tree as bytes. It is read in place, by parts of the page, and searched by halving; a page that is
 // garbled is read without harm. It stands on `bytes`, and what its entries are is said by `tree`.
+#![tactic(auto)]
+
 ghost use Rattle.std.specs.Prelude.{◌≡◌, ℕ, ◌+◌, ◌*◌, ◌<◌, ◌≤◌, List, [], ◌∷◌, ◌++◌, length};
 ghost use Rattle.octets.specs.Parts.{pair};
 ghost use Rattle.tree.specs.Bytes.{taken};
@@ -7,7 +9,7 @@ ghost use Rattle.tree.specs.Pages.{weigh};
 ghost use Rattle.node.specs.Look.{Picked};
 ghost use Rattle.node.specs.Node.{count_in, start_of, key_at, value_at, entry_at, entries_in, Formed, Sorted, Parted, Cleared, Written, Pushed};
 
-use bytes::{copy_in, fill_zero, less, pair_at, part_of, put_pair};
+use octets::{copy_in, fill_zero, less, pair_at, part_of, put_pair};
 
 pub mod joiner;
 

@@ -1,10 +1,12 @@
 // Plays random gets, puts, searches, commits, undos and cuts of power on pages over a device in memory, against a model in memory,
 // from printed seeds; and counts what is asked of the device.
+#![tactic(auto)]
+
 mod drive;
 mod model;
 
 use device::vector::Vector;
-use device::{Layer, Over, Store};
+use device::{Over, Store};
 use drive::Asks;
 use model::{Model, PAGES};
 use pager::Pager;

@@ -9,7 +9,7 @@ use Rattle.shadow.proofs.Pages.{Laid}
 use Rattle.shadow.proofs.Shadow.{Body, Low, low-cut, Above, Behind, Filled}
 use Rattle.shadow.proofs.Count.{no_room, moved, moved-of, true-and, false-and}
 use Rattle.pager.specs.Steps.{bs, ws, os, ys, hs, held, Same, Sizes}
-use Rattle.pager.specs.Model.{Held, undone, committed, changed, cleared, Crowded}
+use Rattle.pager.specs.Model.{Held, undone, changed, cleared, Crowded}
 use Rattle.pager.specs.declared.state.Call.{Call}
 use Rattle.pager.specs.declared.state.Call.TheVariants.{Get, Put, Give, Vacant, Commit, Undo}
 use Rattle.pager.specs.declared.state.Phase.{Phase}

@@ -3,7 +3,7 @@ use Rattle.std.proofs.Common.{◌≡◌, ℕ, zero, suc, ◌+◌, ◌-◌, ◌*�
 use Rattle.std.specs.Int.Digits.{number_from_digits_after}
 use Rattle.std.proofs.lemmas.Bool.{le-leb}
 use Rattle.device.specs.Device.{Device, blank_device, zeros, AfterCut, With, and, Sector, Sized}
-use Rattle.device.specs.Runs.{Asks, works, waits, Fair}
+use Rattle.device.specs.Runs.{Asks, Fair}
 use Rattle.device.specs.declared.Never.{Never}
 use Rattle.device.specs.declared.Ask.TheVariants.{Read, Write, Sync, Again, Hand, Answer}
 use Rattle.device.proofs.Sectors.{cut-one, begun-none}

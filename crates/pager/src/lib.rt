@@ -7,6 +7,8 @@
 // Nothing is counted up, so no number can come round.
 //
 // It holds no pages in memory but the one under way, and stands on `device` and `shadow`; a cache of pages is a layer above it.
+#![tactic(auto)]
+
 pub mod leaves;
 pub mod state;
 

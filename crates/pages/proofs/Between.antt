@@ -1,11 +1,9 @@
 -- Between the pager and the pages: what the pager answers, and what holds at each place of the frames.
-use Rattle.std.proofs.Common.{◌≡◌, ℕ, ◌+◌, ◌-◌, ◌<◌, ◌≤◌, Bool, true, false, not, ◌⊎◌, List, [], length, get_or, vec_items, sym, refl, ap, ◌∙◌, inl, inr, arith}
+use Rattle.std.proofs.Common.{◌≡◌, ℕ, ◌+◌, ◌-◌, ◌<◌, ◌≤◌, Bool, true, false, ◌⊎◌, List, [], length, get_or, vec_items, sym, refl, ap, ◌∙◌, inl, inr, arith}
 use Rattle.device.specs.Device.{With, and}
 use Rattle.device.specs.Layers.{Place, down, below, raised, lifting, rests, begun, midst}
 use Rattle.device.specs.declared.Never.{Never}
-use Rattle.device.specs.declared.Next.{Next}
-use Rattle.device.specs.declared.Next.TheVariants as next
-use Rattle.shadow.specs.Layout.{pages, blank}
+use Rattle.shadow.specs.Layout.{blank}
 use Rattle.pager.specs.Model.{Held, undone, committed, changed, cleared, Crowded}
 use Rattle.pager.specs.Model as low
 use Rattle.pager.specs.declared.state.Call.{Call}
@@ -13,10 +11,9 @@ use Rattle.pager.specs.declared.state.Call.TheVariants as call
 use Rattle.pager.specs.declared.state.Reply.{Reply}
 use Rattle.pager.specs.declared.state.Reply.TheVariants as reply
 use Rattle.pages.specs.Layer.{frame_of, tg, st, fr, given, Same}
-use Rattle.pages.specs.Model.{Pages, put_page, Replies, gets, gets_none, puts, full, puts_none, puts_short, finds, finds_none, commits, undoes}
+use Rattle.pages.specs.Model.{Pages, put_page}
 use Rattle.pages.specs.declared.frames.PageCall.{PageCall}
 use Rattle.pages.specs.declared.frames.PageCall.TheVariants.{Get, Put, Vacant, Commit, Undo}
-use Rattle.pages.specs.declared.frames.PageReply.TheVariants.{Page, Done, NoRoom, At, Nowhere, Outside}
 use Rattle.pages.specs.declared.frames.Doing.{Doing}
 use Rattle.pages.specs.declared.frames.Doing.TheVariants.{Rising, Resting, Asked, Short, Owning, Evicting, Clearing, Making, Fetching, Searching, Flushing, Committing, Undoing}
 use Rattle.pages.specs.declared.frames.Frames.{Frames}

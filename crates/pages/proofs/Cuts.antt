@@ -1,9 +1,8 @@
 -- The frames as they come up, and what a cut leaves of a call.
 use Rattle.std.proofs.Common.{◌≡◌, ℕ, ◌-◌, not, List, [], sym, refl, ap, ◌∙◌, subst, inl, inr, arith}
 use Rattle.device.specs.Device.{With, and}
-use Rattle.device.specs.Layers.{below, up}
+use Rattle.device.specs.Layers.{up}
 use Rattle.device.specs.declared.Never.{Never}
-use Rattle.device.specs.declared.Next.{Next}
 use Rattle.device.specs.declared.Next.TheVariants as next
 use Rattle.device.proofs.Sectors.{begun-none}
 use Rattle.device.proofs.StandingAbove.{Cut}
@@ -14,8 +13,7 @@ use Rattle.pager.specs.Model as low
 use Rattle.pager.specs.declared.state.Call.{Call}
 use Rattle.pager.specs.declared.state.Call.TheVariants as call
 use Rattle.pager.specs.declared.state.Reply.{Reply}
-use Rattle.pager.specs.declared.state.Reply.TheVariants as reply
-use Rattle.pages.specs.Layer.{Turn, frame_of, tg, st, fr, given, Goes, Starts, TakenBy, frames_layer}
+use Rattle.pages.specs.Layer.{Turn, frame_of, tg, st, fr, Goes, Starts, TakenBy, frames_layer}
 use Rattle.pages.specs.Model.{Pages, blank_pages, keep, drop, Replies, commits, pages_judge}
 use Rattle.pages.specs.declared.frames.PageCall.{PageCall}
 use Rattle.pages.specs.declared.frames.PageCall.TheVariants.{Get, Put, Vacant, Commit, Undo}

@@ -4,7 +4,6 @@ use Rattle.shadow.specs.Layout.{blank}
 use Rattle.device.specs.Layers.{Whose, its, belows, none, after, EndsAbove, BothOpen, both_open}
 use Rattle.device.specs.declared.Over.{Over}
 use Rattle.device.specs.declared.Never.{Never}
-use Rattle.device.specs.declared.Next.{Next}
 use Rattle.device.specs.declared.Next.TheVariants as next
 use Rattle.device.proofs.Ending.{settles-by}
 use Rattle.device.proofs.StandingAbove.{keeps-above}

@@ -3,9 +3,7 @@ use Rattle.std.proofs.Common.{◌≡◌, ℕ, ◌+◌, ◌-◌, ◌<◌, ◌≤�
 use Rattle.std.proofs.lemmas.Bool.{leb-true, leb-false}
 use borrow.Author.Tests.{eqb-false}
 use Rattle.device.specs.Device.{With, and, Sized}
-use Rattle.device.specs.Layers.{down, below, up}
 use Rattle.device.specs.declared.Never.{Never}
-use Rattle.device.specs.declared.Next.{Next}
 use Rattle.device.specs.declared.Next.TheVariants as next
 use Rattle.device.proofs.Sectors.{begun-none}
 use Rattle.device.proofs.StandingAbove.{Led, StandingAbove}

@@ -5,6 +5,8 @@
 // is written once, when its frame is needed or at the commit, and a page that is read again is not asked for.
 // A page is given its slot when it is put, so that writing it back never wants room. Page p has the one frame p modulo `FRAMES`.
 // It stands on `pager` as a layer of `device`, and sees no device itself.
+#![tactic(auto)]
+
 pub mod frames;
 
 pub use frames::work::{open, room_stands};

@@ -1,6 +1,8 @@
 // rehearse: plays a script on a device in memory, with cuts of power. A line is a statement, `next`, `cut N S` (power fails
 // once N more things have been asked of the device, and the seed S chooses what was kept of each sector), or as the first one
 // `size N`, in sectors. It prints the answer of each call, and `cut` where the power failed; then it comes up by itself.
+#![tactic(auto)]
+
 use console::Stop;
 use console::answers::push_reply;
 use console::drive::answer;
@@ -9,6 +11,7 @@ use session::{Engine, Reply};
 use std::alloc::Global;
 use std::io;
 use std::io::{BufReader, Write};
+use std::process::ExitCode;
 
 mod disk;
 mod script;
@@ -124,7 +127,7 @@ impl Rehearsal {
 
 fn run(rt: &HostRuntime) -> Result<(), Stop> {
     let heap = rt.alloc();
-    let mut input = BufReader::new(rt.stdin());
+    let mut input = BufReader::new(heap, rt.stdin())?;
     let mut line = Vec::new(heap);
     let mut more = read_line(&mut input, &mut line)?;
     let mut size = SECTORS;
@@ -144,8 +147,9 @@ fn run(rt: &HostRuntime) -> Result<(), Stop> {
     Ok(())
 }
 
-fn main(rt: HostRuntime) -> Result<(), io::Error> {
-    match run(&rt) {
+// Says on standard error why it ended, where it failed.
+fn told(rt: &HostRuntime) -> Result<(), io::Error> {
+    match run(rt) {
         Ok(()) => Ok(()),
         Err(Stop::Failed(e)) => {
             eprintln!(rt;
@@ -154,5 +158,13 @@ fn main(rt: HostRuntime) -> Result<(), io::Error> {
             Err(e)
         }
         Err(Stop::Cut) => Err(io::Error::from(io::ErrorKind::UnexpectedEof)),
+    }
+}
+
+// What went wrong was said in one line by then; the status says that it did.
+fn main(rt: HostRuntime) -> ExitCode {
+    match told(&rt) {
+        Ok(()) => ExitCode::SUCCESS,
+        Err(_) => ExitCode::FAILURE,
     }
 }

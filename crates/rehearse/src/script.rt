@@ -43,7 +43,7 @@ fn parted(text: &[u8]) -> Option<(&[u8], &[u8])> {
 
 fn cut_of(text: &[u8]) -> Option<Line> {
     let (word, rest) = parted(text)?;
-    if word != b"cut" {
+    if word != b"cut".as_slice() {
         return None;
     }
     let (asks, seed) = parted(rest)?;
@@ -51,7 +51,7 @@ fn cut_of(text: &[u8]) -> Option<Line> {
 }
 
 pub fn line_of(text: &[u8]) -> Line {
-    if text == b"next" {
+    if text == b"next".as_slice() {
         return Line::Next;
     }
     match cut_of(text) {
@@ -63,7 +63,7 @@ pub fn line_of(text: &[u8]) -> Line {
 // The sectors that `size N` says.
 pub fn size_of(text: &[u8]) -> Option<u64> {
     let (word, rest) = parted(text)?;
-    if word != b"size" {
+    if word != b"size".as_slice() {
         return None;
     }
     number(rest)

@@ -1,11 +1,11 @@
 -- The session is right above the specification of pages, and so the engine is whole.
-use Rattle.std.proofs.Common.{◌≡◌, ℕ, ◌<◌, ◌⊎◌, List, [], refl, ◌∙◌, subst, inl, inr, lit<}
+use Rattle.std.proofs.Common.{◌≡◌, ℕ, ◌<◌, List, [], refl, ◌∙◌, subst, inl, lit<}
 use Rattle.device.specs.Device.{With, and, nothing}
 use Rattle.device.specs.Layers.{Place, down, below, raised, lifting, rests, begun, midst, up, Whose, its, belows, none, after, EndsAbove, over}
 use Rattle.device.specs.declared.Next.{Next}
-use Rattle.device.specs.declared.Next.TheVariants.{Call as Calls, Give}
+use Rattle.device.specs.declared.Next.TheVariants.{Give}
 use Rattle.device.specs.declared.Never.{Never}
-use Rattle.device.proofs.StandingAbove.{Led, Cut, StandingAbove, keeps-above}
+use Rattle.device.proofs.StandingAbove.{Led, StandingAbove, keeps-above}
 use Rattle.device.proofs.Ending.{settles-by}
 use Rattle.device.proofs.Whole.{layers-compose}
 use Rattle.device.proofs.Inside.{whole-inside}
@@ -18,7 +18,7 @@ use Rattle.pages.specs.declared.frames.Frames.{Frames}
 use Rattle.pager.specs.declared.state.Pager.{Pager}
 use Rattle.device.specs.declared.Over.{Over}
 use Rattle.session.specs.Layer.{HeardAs, SaidAs, TakenAs, Is, StartsAt, HearsAt, session_layer}
-use Rattle.session.specs.Promise.{Says, refuses, Answered, tables, built, EngineWhole}
+use Rattle.session.specs.Promise.{refuses, Answered, tables, built, EngineWhole}
 use Rattle.session.specs.declared.statement.Heard.{Heard}
 use Rattle.session.specs.declared.statement.Heard.TheVariants.{TooLong, Unread, Statement}
 use Rattle.session.specs.declared.statement.Doing.{Doing}
@@ -28,7 +28,7 @@ use Rattle.session.specs.declared.Call.{Call}
 use Rattle.session.specs.declared.Call.TheVariants.{Say, Next as NextRow}
 use Rattle.session.specs.declared.Value.{Value}
 use Rattle.session.specs.declared.Reply.{Reply}
-use Rattle.session.specs.declared.Reply.TheVariants.{No, Done}
+use Rattle.session.specs.declared.Reply.TheVariants.{No}
 
 -- IT ENDS
 rank : Doing → ℕ

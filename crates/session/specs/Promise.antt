@@ -1,5 +1,5 @@
 -- THE PROMISE OF THE WHOLE. Whatever is said, whatever is asked, wherever power fails, on any device: everything that is ever seen is as the meaning says.
-use Rattle.std.specs.Prelude.{◌≡◌, ℕ, Bool, false, List, [], map, reverse, ℤ, Ok, Err, Result}
+use Rattle.std.specs.Prelude.{ℕ, Bool, false, List, [], map, reverse, Ok, Err, Result}
 use Rattle.device.specs.Device.{With, Engine as Store, Judge, Sized}
 use Rattle.device.specs.Runs.{Whole}
 use Rattle.device.specs.Layers.{over}

@@ -13,6 +13,8 @@
 // What is promised of it is `Whole`, on the contract of `Engine::open`: every answer over every list of calls and cuts is
 // one that the written meaning gives, nothing outside the device is asked for, and every call ends. It stands on `meaning`,
 // on `device` (what a device, a cut and a layer are), and on the specification of `pages`.
+#![tactic(auto)]
+
 ghost use Rattle.std.specs.Prelude.{◌≡◌, ℕ, []};
 ghost use Rattle.device.specs.Device.{and};
 ghost use Rattle.session.specs.Promise.{engine_of, EngineWhole, OpenedBy};

@@ -1,5 +1,5 @@
 -- Pages of eight sectors: what they hold depends on the sectors of their slot, and how they are written and read sector by sector.
-use Rattle.std.proofs.Common.{◌≡◌, ℕ, zero, suc, ◌+◌, ◌-◌, ◌*◌, ◌<◌, ◌≤◌, true, List, [], ◌∷◌, ◌++◌, get_or, take, drop, replicate, sym, refl, ap, ◌∙◌, arith, take-add, ne_eqb}
+use Rattle.std.proofs.Common.{◌≡◌, ℕ, zero, suc, ◌+◌, ◌*◌, ◌<◌, ◌≤◌, true, List, [], ◌∷◌, ◌++◌, get_or, take, drop, replicate, sym, refl, ap, ◌∙◌, arith, take-add, ne_eqb}
 use Rattle.device.specs.Device.{Device, zeros, latest, shown, written}
 use Rattle.device.proofs.Sectors.{shown-written, since-other}
 use Rattle.shadow.specs.Layout.{slot_at, blank, gather, page_in}

@@ -1,6 +1,6 @@
 -- Where things stand on the device, and what the bytes mean. N: pages; M: map sectors an area; S: slots, numbered from 1.
 -- Sector 0 is the header, 1 .. M the first area, M + 1 .. 2 M the second; the slot e has the eight sectors from 1 + 2 M + 8 (e - 1) on.
-use Rattle.std.specs.Prelude.{◌≡◌, ℕ, zero, suc, ◌+◌, ◌-◌, ◌*◌, ◌/◌, ◌≤◌, Bool, true, false, cond, ◌&&◌, ◌⊎◌, List, [], ◌∷◌, ◌++◌, length, take, drop, ◌==◌, ◌≢◌, nat_le, slice_index}
+use Rattle.std.specs.Prelude.{ℕ, zero, suc, ◌+◌, ◌-◌, ◌*◌, ◌/◌, ◌≤◌, Bool, true, false, cond, ◌&&◌, ◌⊎◌, List, [], ◌∷◌, ◌++◌, length, take, drop, ◌==◌, ◌≢◌, nat_le, slice_index}
 use Rattle.std.specs.Int.Digits.{number_from_digits}
 use Rattle.device.specs.Device.{zeros}
 

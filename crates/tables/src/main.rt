@@ -1,5 +1,7 @@
 // tables [FILE]: statements from standard input, a line each, answered on a file as the device. It is a thin driver over the
 // proved engine: it does what is asked, in order, and prints the answers.
+#![tactic(auto)]
+
 use console::Stop;
 use console::answers::push_reply;
 use console::drive::answer;
@@ -7,6 +9,7 @@ use console::lines::read_line;
 use session::{Engine, Reply, Unopened};
 use std::alloc::Global;
 use std::io::{BufReader, Write};
+use std::process::ExitCode;
 use std::{env, io};
 
 mod file;
@@ -81,7 +84,7 @@ fn serve(rt: &HostRuntime, engine: Engine, disk: FileDisk) -> Result<(), Stop> {
         out: Vec::new(heap),
     };
     let _ = console.hear()?;
-    let mut input = BufReader::new(rt.stdin());
+    let mut input = BufReader::new(heap, rt.stdin())?;
     let mut line = Vec::new(heap);
     for _ in 0..u64::MAX {
         if !read_line(&mut input, &mut line)? {
@@ -131,11 +134,19 @@ fn run(rt: &HostRuntime, path: &str) -> Result<(), io::Error> {
 }
 
 // The file that is named, or `device`.
-fn main(rt: HostRuntime) -> Result<(), io::Error> {
-    let mut args = env::args(&rt)?;
+fn run_named(rt: &HostRuntime) -> Result<(), io::Error> {
+    let mut args = env::args(rt)?;
     let _ = args.next();
     match args.next() {
-        Some(path) => run(&rt, path.as_str()),
-        None => run(&rt, "device"),
+        Some(path) => run(rt, path.as_str()),
+        None => run(rt, "device"),
+    }
+}
+
+// What went wrong was said in one line by then; the status says that it did.
+fn main(rt: HostRuntime) -> ExitCode {
+    match run_named(&rt) {
+        Ok(()) => ExitCode::SUCCESS,
+        Err(_) => ExitCode::FAILURE,
     }
 }

@@ -1,11 +1,11 @@
 -- How many pages a level and a tree have.
-use Rattle.std.proofs.Common.{◌≡◌, ℕ, zero, suc, ◌+◌, ◌-◌, ◌*◌, ◌^◌, ◌<◌, ◌≤◌, ◌⊎◌, List, [], ◌∷◌, ◌++◌, length, sym, refl, ap, ◌∙◌, subst, subst₂, inl, inr, ⊎_elim, append_assoc, append-nil, mul-le-mul_left, arith, length-append}
+use Rattle.std.proofs.Common.{◌≡◌, ℕ, suc, ◌+◌, ◌-◌, ◌*◌, ◌^◌, ◌<◌, ◌≤◌, List, [], ◌∷◌, ◌++◌, length, sym, refl, ap, subst, subst₂, ⊎_elim, mul-le-mul_left, arith, length-append}
 use native.Mathlib.Nat.{pow-succ'}
 use Rattle.std.specs.List.{AllByRecursion as All}
 use Rattle.std.proofs.lemmas.Bool.{cases_lt}
 use Rattle.tree.specs.Entries.{Entry}
 use Rattle.tree.specs.Pages.{Page, weigh, concat, Fits, ApartFrom, Apart}
-use Rattle.tree.specs.Tree.{Node, heads, pages, entries, Level, Stands, count_all}
+use Rattle.tree.specs.Tree.{Node, heads, pages, entries, Stands, count_all}
 use Rattle.tree.proofs.Joins.{weigh-append}
 
 -- a number of each page, any two adjacent ones together at least c

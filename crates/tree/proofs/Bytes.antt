@@ -1,8 +1,8 @@
 -- A page's entries as bytes.
-use Rattle.std.proofs.Common.{◌≡◌, ℕ, zero, suc, ◌+◌, ◌*◌, ◌/◌, ◌%◌, ◌<◌, ◌≤◌, List, [], ◌∷◌, ◌++◌, length, get_or, take, drop, sym, refl, ap, ◌∙◌, subst, ap₂, append_assoc, append-nil, arith, length-append}
+use Rattle.std.proofs.Common.{◌≡◌, ℕ, suc, ◌+◌, ◌*◌, ◌/◌, ◌%◌, List, [], ◌∷◌, ◌++◌, length, take, drop, sym, refl, ap, ◌∙◌, ap₂, append_assoc, arith, length-append}
 use Rattle.tree.specs.Entries.{Entry}
 use Rattle.tree.specs.Pages.{Page, weigh}
-use Rattle.tree.specs.Bytes.{two, entry_bytes, page_bytes, taken, key_len, value_len, decode, BytesAre}
+use Rattle.tree.specs.Bytes.{entry_bytes, page_bytes, taken, decode, BytesAre}
 
 take_len : (a b : List ℕ) → take (length a) (a ++ b) ≡ a
 take_len [] b = refl

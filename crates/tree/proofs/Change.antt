@@ -1,5 +1,5 @@
 -- A change of a tree, level by level.
-use Rattle.std.proofs.Common.{◌≡◌, ℕ, zero, suc, ◌+◌, ◌-◌, ◌*◌, ◌<◌, ◌≤◌, Bool, true, false, cond, ◌||◌, ◌⊎◌, List, [], ◌∷◌, ◌++◌, length, sym, refl, ap, ◌∙◌, subst, inl, inr, ⊎_elim, append_assoc, append-nil, mul-le-mul_right, mul-le-mul_left, arith, length-append}
+use Rattle.std.proofs.Common.{◌≡◌, ℕ, ◌+◌, ◌-◌, ◌*◌, ◌<◌, ◌≤◌, false, cond, ◌||◌, List, [], ◌∷◌, ◌++◌, length, sym, refl, ap, ◌∙◌, subst, ⊎_elim, append-nil, mul-le-mul_right, mul-le-mul_left, arith, length-append}
 use mathlib.Core.List.{head-eq_of_cons-eq}
 use Rattle.std.specs.List.{AllByRecursion as All}
 use Rattle.std.proofs.lemmas.Bool.{cond_both, cases_lt}
@@ -7,14 +7,14 @@ use Rattle.std.proofs.ByRecursion.{All-append, All-weaker}
 use Rattle.meaning.specs.Value.{less_bytes}
 use Rattle.tree.specs.Entries.{Entry, enter, take_out, Under, Above, Rising, Edit, put, del, Puts, spot, apply, applies}
 use Rattle.tree.specs.Pages.{Page, weigh, concat, Fits, Apart, ApartFrom, joins, join, Beside, none, one, pieces, spread}
-use Rattle.tree.specs.Tree.{Node, heads, pages, entries, count_all, Level, Linked, top, dels, puts, raised}
-use Rattle.tree.specs.Change.{Replaced, Climbs, stays, ends, rises, puts_weigh}
+use Rattle.tree.specs.Tree.{heads, pages, entries, top, dels, puts, raised}
+use Rattle.tree.specs.Change.{stays, ends, rises, puts_weigh}
 use Rattle.tree.specs.Laws.{Edited, ClimbLinks, TopLinks, LeafChange, NewPages, Seventeen, LeafSix, WholeFew, FirstChange, EntersTakes, RunBelongs, Space1226, RaisedPuts, Splice}
 use Rattle.tree.proofs.Joins.{weigh-append, concat-append, join-concat, join_apart, joins-apart, joins-begins, join-ends, apart-front, apart-back, apart-tail}
 use Rattle.tree.proofs.Bound.{all_left, all_right, leaf-bound, five, weigh-most, space-bound}
 use Rattle.tree.proofs.Spread.{level-any, level-edit, drop-run}
 use Rattle.tree.proofs.Edits.{under-under}
-use Rattle.octets.proofs.Order.{less-from, from_less}
+use Rattle.octets.proofs.Order.{from_less}
 use Rattle.tree.proofs.Look.{belongs-parts}
 use Rattle.tree.proofs.Rise.{heads-rise, applies-append, dels-run, puts-run}
 

@@ -1,12 +1,12 @@
 -- Pieces: a page with its edits, cut where it has become too large.
-use Rattle.std.proofs.Common.{◌≡◌, ℕ, zero, suc, ◌+◌, ◌*◌, ◌<◌, ◌≤◌, Bool, true, false, cond, not, ◌&&◌, ◌||◌, leb, List, [], ◌∷◌, ◌++◌, length, sym, refl, ap, ◌∙◌, subst, append_assoc, append-nil, arith, length-append}
+use Rattle.std.proofs.Common.{◌≡◌, ℕ, ◌+◌, ◌≤◌, Bool, true, false, cond, not, ◌||◌, leb, List, [], ◌∷◌, ◌++◌, sym, refl, ap, ◌∙◌, append_assoc, append-nil, arith}
 use Rattle.std.specs.List.{AllByRecursion as All}
-use Rattle.std.proofs.lemmas.Bool.{cond_both, leb-true, leb-false, or_parts, or_left, or_right, or_from, not_from_false, cases_Bool}
-use Rattle.std.proofs.ByRecursion.{All-append, All-weaker}
+use Rattle.std.proofs.lemmas.Bool.{cond_both, leb-true, or_parts, or_left, or_right, or_from, not_from_false}
+use Rattle.std.proofs.ByRecursion.{All-append}
 use Rattle.meaning.specs.Value.{less_bytes}
 use Rattle.tree.specs.Entries.{Entry, enter, take_out, Edit, put, del, Puts, spot, apply, applies, edited}
 use Rattle.tree.specs.Pages.{Page, weigh, concat, Fits, kept, segments, parts, pieces}
-use Rattle.octets.proofs.Order.{clash, less-same}
+use Rattle.octets.proofs.Order.{less-same}
 use Rattle.tree.proofs.Joins.{weigh-append, concat-append}
 use Rattle.tree.proofs.Edits.{applies-all}
 

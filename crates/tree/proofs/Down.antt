@@ -1,20 +1,18 @@
 -- The whole way down.
-use Rattle.std.proofs.Common.{◌≡◌, ℕ, zero, suc, ◌+◌, ◌*◌, ◌<◌, ◌≤◌, Bool, true, false, cond, not, List, [], ◌∷◌, ◌++◌, length, sym, refl, ap, ◌∙◌, subst, append_assoc, append-nil, arith}
+use Rattle.std.proofs.Common.{◌≡◌, ℕ, zero, suc, ◌<◌, Bool, true, false, cond, not, List, [], ◌∷◌, ◌++◌, length, sym, refl, ap, ◌∙◌, subst, append_assoc, arith}
 use mathlib.Core.List.{nil≢cons, cons≢nil, head-eq_of_cons-eq, tail-eq_of_cons-eq}
 use Rattle.std.specs.List.{AllByRecursion as All}
 use Rattle.std.proofs.lemmas.Bool.{cond_both, cond-true, cond-false, not_from_false, not_from_true}
-use Rattle.std.proofs.ByRecursion.{All-append}
 use Rattle.meaning.specs.Value.{less_bytes}
-use Rattle.tree.specs.Entries.{Entry, first_key, Reply, Nothing, Found, first_from, last_before, Above, Under, Rising}
+use Rattle.tree.specs.Entries.{Entry, first_key, Reply, Nothing, Found, first_from, last_before, Above, Rising}
 use Rattle.tree.specs.Pages.{Page, concat}
-use Rattle.tree.specs.Tree.{Node, head, heads, pages, entries}
-use Rattle.tree.specs.Look.{lead, either, next_above, next_in, down_next, first_of, or_else, first_at, seek_from, seek_before, Over, NotUnder, Reached, Chosen, Belongs, ChosenUnder, LastUnder, Child, pick, pick_under, child, down, Stored, InStore, Reaches}
+use Rattle.tree.specs.Tree.{Node, heads, pages, entries}
+use Rattle.tree.specs.Look.{lead, either, next_above, next_in, down_next, first_of, or_else, first_at, seek_before, Over, NotUnder, Reached, Chosen, Belongs, ChosenUnder, LastUnder, pick, pick_under, child, down, Stored, InStore, Reaches}
 use Rattle.tree.specs.Laws.{DownReaches, DownUnder, DownExact, DownBefore, SeekFrom, SeekBefore, SeekLeaf, NamesApart}
-use Rattle.octets.proofs.Order.{never, less-same, less-trans, less-asym, less-from, from_less}
-use Rattle.tree.proofs.Bound.{all_left, all_right}
-use Rattle.tree.proofs.Spread.{rising-left, rising-right, rising-under}
-use Rattle.tree.proofs.Rise.{heads-append, heads-rising}
-use Rattle.tree.proofs.Look.{at-step, under-step, lead-heads, first_found, last_found, none_found, same-lead}
+use Rattle.octets.proofs.Order.{never, less-same, less-trans, less-asym, less-from}
+use Rattle.tree.proofs.Bound.{all_right}
+use Rattle.tree.proofs.Rise.{heads-rising}
+use Rattle.tree.proofs.Look.{at-step, under-step, lead-heads, first_found, last_found, none_found}
 
 -- what is chosen in a page
 pick-reached : (k : List ℕ) (x : Entry) (xs : List Entry) → less_bytes k x.key ≡ false → less_bytes k (pick k x xs).key ≡ false

@@ -1,11 +1,10 @@
 -- What edits do to a list of entries, and to its parts.
-use Rattle.std.proofs.Common.{◌≡◌, ℕ, zero, suc, ◌+◌, ◌*◌, ◌<◌, ◌≤◌, Bool, true, false, cond, not, ◌&&◌, ◌||◌, List, [], ◌∷◌, ◌++◌, sym, refl, ap, ◌∙◌, subst, append_assoc, append-nil, arith}
+use Rattle.std.proofs.Common.{◌≡◌, ℕ, Bool, true, false, cond, ◌||◌, List, [], ◌∷◌, ◌++◌, sym, refl, ap, ◌∙◌, subst}
 use Rattle.std.specs.List.{AllByRecursion as All}
-use Rattle.std.proofs.lemmas.Bool.{cond_both, or_parts, or_left, or_right}
-use Rattle.std.proofs.ByRecursion.{All-weaker}
+use Rattle.std.proofs.lemmas.Bool.{cond_both, or_left, or_right}
 use Rattle.meaning.specs.Value.{less_bytes}
 use Rattle.tree.specs.Entries.{Entry, enter, take_out, Above, Under, From, Rising, Edit, put, del, Puts, spot, apply, applies, lower, upper}
-use Rattle.octets.proofs.Order.{clash, never, less-trans, less-asym, less-same, less-neither, less-from, from_less}
+use Rattle.octets.proofs.Order.{less-trans, less-asym, less-neither, less-from}
 
 -- what holds of every entry
 pub enter-all : (P : Entry → Type 0) (e : Entry) (xs : List Entry) → P e → All P xs → All P (enter e xs)

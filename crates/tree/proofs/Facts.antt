@@ -1,8 +1,7 @@
 -- The laws' proofs that are put together from several.
-use Rattle.std.proofs.Common.{◌≡◌, List, [], ◌∷◌, ◌++◌, sym, refl, ap, ◌∙◌, subst, append_assoc, append-nil}
+use Rattle.std.proofs.Common.{◌++◌}
 use Rattle.tree.specs.Laws.{WindowApart, WindowGrown}
-use Rattle.tree.specs.Pages.{Apart}
-use Rattle.tree.proofs.Window.{window, window-grown, apart-grown, each_same, each_append, grown-same}
+use Rattle.tree.proofs.Window.{window, apart-grown, each_same, each_append, grown-same}
 
 pub windows : WindowApart
 windows w cap pre l touched news r post b c h = window w cap b c touched news h

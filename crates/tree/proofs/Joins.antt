@@ -1,10 +1,9 @@
 -- Joining pages: the entries stay, the pages fit, and neighbours are apart.
-use Rattle.std.proofs.Common.{◌≡◌, ℕ, zero, suc, ◌+◌, ◌*◌, ◌<◌, ◌≤◌, Bool, true, false, cond, leb, List, [], ◌∷◌, ◌++◌, length, sym, refl, ap, ◌∙◌, subst, append_assoc, append-nil, arith, length-append}
+use Rattle.std.proofs.Common.{◌≡◌, ℕ, ◌+◌, ◌<◌, ◌≤◌, cond, leb, List, [], ◌∷◌, ◌++◌, sym, refl, ap, ◌∙◌, append_assoc, append-nil, arith, length-append}
 use Rattle.std.specs.List.{AllByRecursion as All}
 use Rattle.std.proofs.lemmas.Bool.{cond_both, leb-true, leb-false, lt-leb}
-use Rattle.std.proofs.ByRecursion.{All-append}
 use Rattle.tree.specs.Entries.{Entry}
-use Rattle.tree.specs.Pages.{Page, weigh, concat, Fits, ApartFrom, Apart, joins, join, Beside, none, one}
+use Rattle.tree.specs.Pages.{Page, weigh, concat, Fits, ApartFrom, Apart, joins, join}
 
 pub weigh-append : (w : Entry → ℕ) (xs ys : Page) → weigh w (xs ++ ys) ≡ weigh w xs + weigh w ys
 unfolding weigh

@@ -1,19 +1,17 @@
 -- Looking for a key, level by level.
-use Rattle.std.proofs.Common.{◌≡◌, ℕ, zero, suc, ◌+◌, ◌*◌, ◌<◌, ◌≤◌, Bool, true, false, cond, List, [], ◌∷◌, ◌++◌, length, sym, refl, ap, ◌∙◌, subst, append_assoc, append-nil, arith}
+use Rattle.std.proofs.Common.{◌≡◌, ℕ, ◌<◌, Bool, true, false, cond, List, [], ◌∷◌, ◌++◌, length, sym, refl, ap, ◌∙◌, subst, append_assoc, arith}
 use mathlib.Core.List.{nil≢cons, head-eq_of_cons-eq, tail-eq_of_cons-eq}
 use Rattle.std.specs.List.{AllByRecursion as All}
-use Rattle.std.proofs.lemmas.Bool.{cond_both}
 use Rattle.meaning.specs.Value.{less_bytes}
 use Rattle.tree.specs.Entries.{Entry, first_key, Reply, Nothing, Found, first_from, last_before, Above, Under, From, Rising}
 use Rattle.tree.specs.Pages.{Page, concat}
 use Rattle.tree.specs.Tree.{Node, head, heads, pages, entries}
-use Rattle.tree.specs.Look.{lead, either, Over, NotUnder, Reached, Chosen, Belongs, ChosenUnder, LastUnder, Child, first_of, or_else}
+use Rattle.tree.specs.Look.{lead, either, Over, NotUnder, Reached, first_of, or_else}
 use Rattle.tree.specs.Laws.{AtStep, UnderStep, BelongsParts, FirstFound, LastFound, NoneFound, SameLead}
-use Rattle.octets.proofs.Order.{clash, never, less-trans, less-asym, less-from, from_less}
+use Rattle.octets.proofs.Order.{less-trans, less-asym, from_less}
 use Rattle.tree.proofs.Joins.{concat-append}
-use Rattle.tree.proofs.Bound.{all_left, all_right}
-use Rattle.tree.proofs.Edits.{under-under, under-above}
-use Rattle.tree.proofs.Spread.{rising-right, under_first, from_first}
+use Rattle.tree.proofs.Edits.{under-under}
+use Rattle.tree.proofs.Spread.{rising-right, under_first}
 use Rattle.tree.proofs.Rise.{pages-append}
 
 -- a level cut where its heads are

@@ -1,11 +1,10 @@
 -- The level's edit as a function.
-use Rattle.std.proofs.Common.{◌≡◌, ℕ, ◌≤◌, List, [], ◌∷◌, ◌++◌, length, sym, refl, ap, ◌∙◌, subst, append_assoc, append-nil, arith}
-use Rattle.std.specs.List.{AllZip, AllByRecursion as All}
-use Rattle.tree.specs.Entries.{Entry, Under, Above, Edit, spot}
-use Rattle.tree.specs.Pages.{Page, weigh, concat, Apart, join, Beside, none, one, spread}
-use Rattle.tree.specs.Change.{Replaced, lasts, fronts, firsts, rests, replace}
-use Rattle.tree.specs.Tree.{Node, heads, entries, Stands, top}
-use Rattle.tree.specs.Look.{Stored, InStore}
+use Rattle.std.proofs.Common.{◌≡◌, List, [], ◌∷◌, ◌++◌, length, sym, refl, ap, ◌∙◌, subst, append_assoc, arith}
+use Rattle.std.specs.List.{AllByRecursion as All}
+use Rattle.tree.specs.Entries.{Under, Above, Edit, spot}
+use Rattle.tree.specs.Pages.{Page, concat, Apart, Beside, none, one, spread}
+use Rattle.tree.specs.Change.{lasts, fronts, firsts, rests, replace}
+use Rattle.tree.specs.Tree.{Node, top}
 use Rattle.tree.specs.Laws.{ReplaceIs, ReplaceGrown, StandsStored}
 use Rattle.tree.proofs.Window.{grown-same}
 use Rattle.tree.proofs.Spread.{spreads, spread-fit}

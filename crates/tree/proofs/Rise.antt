@@ -1,15 +1,15 @@
 -- A level's change, told to the level above; new tops, and old ones that go.
-use Rattle.std.proofs.Common.{◌≡◌, ℕ, zero, suc, ◌+◌, ◌-◌, ◌*◌, ◌<◌, ◌≤◌, Bool, true, false, cond, ◌||◌, leb, List, [], ◌∷◌, ◌++◌, length, sym, refl, ap, ◌∙◌, subst, append_assoc, append-nil, arith, length-append}
+use Rattle.std.proofs.Common.{◌≡◌, ℕ, ◌<◌, ◌≤◌, true, cond, leb, List, [], ◌∷◌, ◌++◌, length, sym, refl, ap, ◌∙◌, subst, append_assoc, arith}
 use Rattle.std.specs.List.{AllByRecursion as All}
 use Rattle.std.proofs.lemmas.Bool.{cond_both, leb-true, leb-false, or_from}
 use Rattle.meaning.specs.Value.{less_bytes}
-use Rattle.tree.specs.Entries.{Entry, first_key, enter, take_out, Above, Under, Rising, Edit, put, del, spot, apply, applies}
+use Rattle.tree.specs.Entries.{Entry, first_key, take_out, Above, Rising, Edit, put, del, spot, apply, applies}
 use Rattle.tree.specs.Pages.{Page, weigh, concat, Fits, Apart, join}
-use Rattle.tree.specs.Tree.{Node, head, heads, pages, entries, Level, Stands, dels, puts, raised, singles, Linked, top, trim}
+use Rattle.tree.specs.Tree.{Node, head, heads, pages, entries, Stands, dels, puts, singles, top, trim}
 use Rattle.tree.specs.Laws.{HeadsRise, NewLevel, TrimStands}
 use Rattle.octets.proofs.Order.{less-same}
 use Rattle.tree.proofs.Joins.{join-concat, join-fit, join_apart}
-use Rattle.tree.proofs.Bound.{all_left, all_right, inner_bound, heads-length, pages-length}
+use Rattle.tree.proofs.Bound.{all_right, inner_bound, heads-length, pages-length}
 use Rattle.tree.proofs.Edits.{apply-under, enter-first}
 use Rattle.tree.proofs.Spread.{rising-right, rising-under}
 

@@ -1,13 +1,13 @@
 -- A level with edits.
-use Rattle.std.proofs.Common.{◌≡◌, ℕ, zero, suc, ◌+◌, ◌*◌, ◌<◌, ◌≤◌, Bool, true, false, cond, List, [], ◌∷◌, ◌++◌, length, sym, refl, ap, ◌∙◌, subst, append_assoc, append-nil, arith}
+use Rattle.std.proofs.Common.{◌≡◌, ℕ, ◌<◌, ◌≤◌, true, List, [], ◌∷◌, ◌++◌, length, sym, ap, ◌∙◌, subst, append_assoc, append-nil, arith}
 use Rattle.std.specs.List.{AllByRecursion as All}
 use Rattle.std.proofs.lemmas.Bool.{cond_both}
-use Rattle.std.proofs.ByRecursion.{All-append, All-weaker}
+use Rattle.std.proofs.ByRecursion.{All-append}
 use Rattle.meaning.specs.Value.{less_bytes}
 use Rattle.tree.specs.Entries.{Entry, first_key, Above, Under, From, Rising, Edit, Puts, spot, applies, lower, upper}
-use Rattle.tree.specs.Pages.{Page, weigh, concat, Fits, Apart, join, Beside, pieces, spread}
-use Rattle.tree.specs.Laws.{Edited, LevelAny, LevelEdit, PiecesFit}
-use Rattle.octets.proofs.Order.{less-same, less-asym, less-from}
+use Rattle.tree.specs.Pages.{Page, weigh, concat, Fits, join, pieces, spread}
+use Rattle.tree.specs.Laws.{LevelAny, LevelEdit, PiecesFit}
+use Rattle.octets.proofs.Order.{less-same, less-asym}
 use Rattle.tree.proofs.Joins.{concat-append, join-concat, join-fit}
 use Rattle.tree.proofs.Window.{window}
 use Rattle.tree.proofs.Bound.{all_left, all_right}

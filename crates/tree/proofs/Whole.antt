@@ -1,16 +1,15 @@
 -- A whole change of a tree.
-use Rattle.std.proofs.Common.{◌≡◌, ℕ, zero, suc, ◌+◌, ◌-◌, ◌*◌, ◌<◌, ◌≤◌, Bool, true, false, cond, ◌&&◌, ◌⊎◌, List, [], ◌∷◌, ◌++◌, length, sym, refl, ap, ◌∙◌, subst, inl, inr, ⊎_elim, append_assoc, append-nil, arith, length-append}
+use Rattle.std.proofs.Common.{◌≡◌, ℕ, suc, ◌+◌, ◌*◌, ◌<◌, ◌≤◌, true, false, cond, ◌&&◌, ◌⊎◌, List, [], ◌∷◌, ◌++◌, length, sym, refl, ap, ◌∙◌, subst, inl, inr, append_assoc, arith}
 use Rattle.std.specs.List.{AllByRecursion as All}
 use Rattle.std.proofs.lemmas.Bool.{cond_both, and_from, and_left, and_right}
 use Rattle.std.proofs.ByRecursion.{All-weaker}
 use Rattle.meaning.specs.Value.{less_bytes}
-use Rattle.tree.specs.Entries.{Entry, first_key, Under, Above, From, Rising, Edit, Puts, spot, applies}
-use Rattle.tree.specs.Pages.{Page, weigh, concat, Fits, Apart, join, pieces}
-use Rattle.tree.specs.Tree.{Node, head, heads, pages, entries, Level, Linked, Stands, singles, top, trim}
-use Rattle.tree.specs.Look.{lead, Over, Reached, Belongs}
-use Rattle.tree.specs.Change.{Replaced, Climbs, Topped, as_is, new_top, within}
-use Rattle.tree.specs.Laws.{Edited, WholeChange, WholeFirst, TouchedThree}
-use Rattle.octets.proofs.Order.{less-same, less-asym, less-from, from_less}
+use Rattle.tree.specs.Entries.{Entry, first_key, Under, Above, Rising, applies}
+use Rattle.tree.specs.Pages.{Page, concat, Fits, Apart}
+use Rattle.tree.specs.Tree.{Node, head, heads, pages, entries, Level, Linked, top}
+use Rattle.tree.specs.Change.{Topped, as_is, new_top, within}
+use Rattle.tree.specs.Laws.{WholeChange, WholeFirst, TouchedThree}
+use Rattle.octets.proofs.Order.{less-same, less-asym}
 use Rattle.tree.proofs.Joins.{concat-append}
 use Rattle.tree.proofs.Bound.{all_left, all_right, heads-length, pages-length}
 use Rattle.tree.proofs.Rise.{new-level, trim-stands, heads-append, pages-append}

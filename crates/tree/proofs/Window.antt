@@ -1,9 +1,9 @@
 -- A run of pages of a level, replaced between its neighbours.
-use Rattle.std.proofs.Common.{◌≡◌, ℕ, zero, suc, ◌+◌, ◌*◌, ◌<◌, ◌≤◌, List, [], ◌∷◌, ◌++◌, sym, refl, ap, ◌∙◌, subst, append_assoc, append-nil, arith}
-use Rattle.std.specs.List.{AllZip, AllByRecursion as All}
+use Rattle.std.proofs.Common.{◌≡◌, ℕ, ◌≤◌, List, [], ◌∷◌, ◌++◌, sym, ap, ◌∙◌, subst, append_assoc, append-nil, arith}
+use Rattle.std.specs.List.{AllZip}
 use Rattle.tree.specs.Entries.{Entry}
-use Rattle.tree.specs.Pages.{Page, weigh, concat, Fits, ApartFrom, Apart, joins, join, Beside, none, one}
-use Rattle.tree.proofs.Joins.{weigh-append, joins-apart, join_apart, join-same, joins-begins, EndsWith, join-ends, apart-front, apart-back, apart-left, apart-right}
+use Rattle.tree.specs.Pages.{Page, weigh, ApartFrom, Apart, join, Beside, none, one}
+use Rattle.tree.proofs.Joins.{weigh-append, joins-apart, join_apart, join-same, joins-begins, join-ends, apart-front, apart-back, apart-left, apart-right}
 
 module _ (w : Entry → ℕ) (cap : ℕ) where
   side_left : {pre l : List Page} → Beside pre l → (ps rest : List Page) → Apart w cap (pre ++ (l ++ rest)) → Apart w cap (pre ++ join w cap (l ++ ps))

@@ -1,5 +1,5 @@
 -- It stands.
-use Rattle.std.proofs.Common.{◌≡◌, ℕ, ◌≤◌, List, [], ◌∷◌, ◌++◌, refl, arith}
+use Rattle.std.proofs.Common.{◌≤◌, List, [], ◌∷◌, ◌++◌, refl, arith}
 use Rattle.std.specs.List.{AllByRecursion as All}
 use Rattle.meaning.specs.Value.{less_bytes}
 use Rattle.tree.specs.Entries.{Entry, first_key, enter, take_out, spot, apply, applies, edited, lower, upper}

@@ -1,10 +1,10 @@
 -- A change of a tree, level by level.
-use Rattle.std.specs.Prelude.{◌≡◌, ℕ, zero, suc, ◌+◌, ◌*◌, ◌<◌, ◌≤◌, cond, ◌&&◌, List, [], ◌∷◌, ◌++◌, length}
+use Rattle.std.specs.Prelude.{◌≡◌, ℕ, ◌+◌, ◌≤◌, cond, ◌&&◌, List, [], ◌∷◌, ◌++◌}
 use Rattle.std.specs.List.{AllByRecursion as All}
 use Rattle.meaning.specs.Value.{less_bytes}
-use Rattle.tree.specs.Entries.{Entry, Under, Above, Rising, Edit, put, del, spot, applies}
-use Rattle.tree.specs.Pages.{Page, weigh, concat, Fits, join, Beside, spread}
-use Rattle.tree.specs.Tree.{Node, heads, pages, entries, raised, singles, top}
+use Rattle.tree.specs.Entries.{Entry, Under, Above, Edit, put, del, spot, applies}
+use Rattle.tree.specs.Pages.{Page, concat, Fits, join, Beside, spread}
+use Rattle.tree.specs.Tree.{Node, heads, pages, raised, singles, top}
 
 -- new is old with the pages where the edits belong edited, cut into any pages that fit, and these joined with their neighbours
 pub record Replaced (w : Entry → ℕ) (cap : ℕ) (es : List Edit) (old new : List Page) : Type 0 where

@@ -1,5 +1,5 @@
 -- Entries in the order of their keys, as lists.
-use Rattle.std.specs.Prelude.{◌≡◌, ℕ, zero, suc, ◌+◌, ◌*◌, ◌<◌, ◌≤◌, Bool, true, false, cond, not, ◌&&◌, ◌||◌, List, [], ◌∷◌, ◌++◌}
+use Rattle.std.specs.Prelude.{◌≡◌, ℕ, Bool, true, false, cond, not, ◌||◌, List, [], ◌∷◌}
 use Rattle.std.specs.List.{AllByRecursion as All}
 use Rattle.meaning.specs.Value.{less_bytes}
 

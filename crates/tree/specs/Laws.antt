@@ -1,9 +1,9 @@
 -- The laws, each a type whose proof is a theorem.
-use Rattle.std.specs.Prelude.{◌≡◌, ℕ, zero, suc, ◌+◌, ◌-◌, ◌*◌, ◌^◌, ◌<◌, ◌≤◌, true, false, ◌⊎◌, List, [], ◌∷◌, ◌++◌, length, ◌≢◌}
+use Rattle.std.specs.Prelude.{◌≡◌, ℕ, ◌+◌, ◌-◌, ◌*◌, ◌^◌, ◌<◌, ◌≤◌, true, false, ◌⊎◌, List, [], ◌∷◌, ◌++◌, length, ◌≢◌}
 use Rattle.std.specs.List.{AllZip, AllByRecursion as All}
 use Rattle.meaning.specs.Value.{less_bytes}
-use Rattle.tree.specs.Entries.{Entry, first_key, enter, take_out, Nothing, first_from, last_before, Above, Under, From, Rising, Edit, put, del, Puts, spot, applies}
-use Rattle.tree.specs.Pages.{Page, weigh, concat, Fits, ApartFrom, Apart, join, Beside, pieces, spread}
+use Rattle.tree.specs.Entries.{Entry, first_key, enter, take_out, Nothing, first_from, last_before, Above, Under, Rising, Edit, put, del, Puts, spot, applies}
+use Rattle.tree.specs.Pages.{Page, weigh, concat, Fits, Apart, join, Beside, pieces, spread}
 use Rattle.tree.specs.Look.{pick, pick_under, down, down_next, seek_from, seek_before, Stored, InStore, Reaches, lead, either, NotUnder, Chosen, Belongs, ChosenUnder, LastUnder, Child, first_of, or_else}
 use Rattle.tree.specs.Change.{Replaced, Climbs, Topped, puts_weigh, replace}
 use Rattle.tree.specs.Tree.{Node, heads, pages, entries, Level, Stands, count_all, raised, singles, Linked, top, trim}

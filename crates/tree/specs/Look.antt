@@ -1,10 +1,10 @@
 -- Looking for a key, level by level.
-use Rattle.std.specs.Prelude.{◌≡◌, ℕ, zero, suc, ◌+◌, ◌*◌, ◌<◌, ◌≤◌, Bool, true, false, cond, List, [], ◌∷◌, ◌++◌, length}
+use Rattle.std.specs.Prelude.{◌≡◌, ℕ, zero, suc, ◌<◌, true, false, cond, List, [], ◌∷◌, ◌++◌, length}
 use Rattle.std.specs.List.{AllByRecursion as All}
 use Rattle.meaning.specs.Value.{less_bytes}
 use Rattle.tree.specs.Entries.{Entry, first_key, Reply, Nothing, Found, first_from, last_before}
 use Rattle.tree.specs.Pages.{Page}
-use Rattle.tree.specs.Tree.{Node, head, heads, pages, entries}
+use Rattle.tree.specs.Tree.{Node, head, heads, entries}
 
 -- the first key of a list, if there is one; the first of two
 unfoldable pub lead : List Entry → List (List ℕ)

@@ -1,6 +1,5 @@
 -- Pages as lists of entries, levels as lists of pages. w is what an entry takes, cap what a page holds.
-use Rattle.std.specs.Prelude.{◌≡◌, ℕ, zero, suc, ◌+◌, ◌*◌, ◌<◌, ◌≤◌, Bool, true, false, cond, not, ◌&&◌, ◌||◌, List, [], ◌∷◌, ◌++◌, length, nat_le}
-use Rattle.std.specs.List.{AllByRecursion as All}
+use Rattle.std.specs.Prelude.{ℕ, ◌+◌, ◌<◌, ◌≤◌, Bool, cond, List, [], ◌∷◌, ◌++◌, length, nat_le}
 use Rattle.tree.specs.Entries.{Entry, first_key, Edit, applies, lower, upper, edited}
 
 abbrev pub Page : Type 0

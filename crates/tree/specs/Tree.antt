@@ -1,8 +1,8 @@
 -- Levels of pages with names, and the tree that they make.
-use Rattle.std.specs.Prelude.{◌≡◌, ℕ, zero, suc, ◌+◌, ◌*◌, ◌^◌, ◌<◌, ◌≤◌, Bool, true, false, cond, List, [], ◌∷◌, ◌++◌, length, nat_le}
+use Rattle.std.specs.Prelude.{◌≡◌, ℕ, ◌+◌, ◌≤◌, cond, List, [], ◌∷◌, ◌++◌, length, nat_le}
 use Rattle.std.specs.List.{AllByRecursion as All}
 use Rattle.tree.specs.Entries.{Entry, first_key, Rising, Edit, put, del}
-use Rattle.tree.specs.Pages.{Page, weigh, concat, Fits, Apart}
+use Rattle.tree.specs.Pages.{Page, concat, Fits, Apart}
 
 -- a page where it lies: its name is the number by which it is reached, as bytes
 pub record Node : Type 0 where

@@ -2,6 +2,8 @@
 // level together exceed a page, and the level above has exactly the first keys of the one below. There is no code here: each
 // function's contract is a law, on edits, look-ups, and how many pages and levels there can be. Start with specs/Entries,
 // Pages and Tree; specs/Laws has the statements.
+#![tactic(auto)]
+
 ghost use Rattle.tree.specs.Bytes.{BytesAre};
 ghost use Rattle.tree.specs.Witness.{Witness, Changed};
 ghost use Rattle.tree.specs.Room.{StandsSized, RoomSays};

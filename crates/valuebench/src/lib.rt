@@ -1,4 +1,6 @@
 // Keys of 16 bytes written and compared in bulk, exported so that plain Rust can time them (bench/run).
+#![tactic(auto)]
+
 use values::Value;
 use values::key::{less, write_column};
 

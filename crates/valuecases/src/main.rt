@@ -1,4 +1,6 @@
 // Worked examples of values: the samples as rows and as keys, all pairs of them compared both ways, sums and products at the edges of 64 bits, tests with null, and texts of 4,000 bytes and one more.
+#![tactic(auto)]
+
 use std::io;
 use values::back::first_column;
 use values::key::write_column;
@@ -33,25 +35,25 @@ fn sample(n: usize) -> Value<'static> {
 
 fn print_hex(rt: &HostRuntime, bytes: &[u8]) -> io::Result<()> {
     for byte in bytes {
-        print!(rt, "{byte:02x}")?;
+        print!(rt; "{byte:02x}")?;
     }
     Ok(())
 }
 
 fn print_value(rt: &HostRuntime, value: Value) -> io::Result<()> {
     match value {
-        Value::Null => print!(rt, "null"),
-        Value::Number(n) => print!(rt, "{n}"),
+        Value::Null => print!(rt; "null"),
+        Value::Number(n) => print!(rt; "{n}"),
         Value::Text(text) => {
-            print!(rt, "'")?;
+            print!(rt; "'")?;
             print_hex(rt, text)?;
-            print!(rt, "'")
+            print!(rt; "'")
         }
     }
 }
 
 fn print_labelled(rt: &HostRuntime, label: &str, value: Value) -> io::Result<()> {
-    print!(rt, "{label} = ")?;
+    print!(rt; "{label} = ")?;
     print_value(rt, value)?;
     println!(rt; "")
 }
@@ -72,7 +74,7 @@ fn key_of<'a>(value: Value, falling: bool, out: &'a mut [u8; 64]) -> &'a [u8] {
 fn print_sample(rt: &HostRuntime, value: Value) -> io::Result<()> {
     print_value(rt, value)?;
     let weight = value.weight();
-    print!(rt, ": weighs {weight}, row ")?;
+    print!(rt; ": weighs {weight}, row ")?;
     let mut row = [0u8; 64];
     let _end = write_value(value, &mut row, 0);
     if weight <= 64 {
@@ -80,10 +82,10 @@ fn print_sample(rt: &HostRuntime, value: Value) -> io::Result<()> {
         print_read(rt, &row[0..weight])?;
     }
     let mut key = [0u8; 64];
-    print!(rt, ", rising ")?;
+    print!(rt; ", rising ")?;
     print_hex(rt, key_of(value, false, &mut key))?;
     print_back(rt, key_of(value, false, &mut key))?;
-    print!(rt, ", falling ")?;
+    print!(rt; ", falling ")?;
     print_hex(rt, key_of(value, true, &mut key))?;
     println!(rt; "")
 }
@@ -91,23 +93,23 @@ fn print_sample(rt: &HostRuntime, value: Value) -> io::Result<()> {
 // How many columns a row has, and its first.
 fn print_read(rt: &HostRuntime, row: &[u8]) -> io::Result<()> {
     let Some(count) = columns(row) else {
-        return print!(rt, " (no row)");
+        return print!(rt; " (no row)");
     };
-    print!(rt, " ({count}: ")?;
+    print!(rt; " ({count}: ")?;
     if let Some(value) = column(row, 0) {
         print_value(rt, value)?;
     }
-    print!(rt, ")")
+    print!(rt; ")")
 }
 
 fn print_back(rt: &HostRuntime, key: &[u8]) -> io::Result<()> {
     let mut text = [0u8; 4000];
     let Some(first) = first_column(key, &mut text) else {
-        return print!(rt, " (no column)");
+        return print!(rt; " (no column)");
     };
-    print!(rt, " (")?;
+    print!(rt; " (")?;
     print_value(rt, first.value)?;
-    print!(rt, ")")
+    print!(rt; ")")
 }
 
 // Whether the bytes of two keys compare as their values do.
@@ -169,11 +171,11 @@ fn print_tests(rt: &HostRuntime) -> io::Result<()> {
         print_labelled(rt, "not", truth_at(i).not().value())?;
         for j in 0..3 {
             print_value(rt, truth_at(i).value())?;
-            print!(rt, ", ")?;
+            print!(rt; ", ")?;
             print_value(rt, truth_at(j).value())?;
-            print!(rt, ": and ")?;
+            print!(rt; ": and ")?;
             print_value(rt, truth_at(i).and(truth_at(j)).value())?;
-            print!(rt, ", or ")?;
+            print!(rt; ", or ")?;
             print_value(rt, truth_at(i).or(truth_at(j)).value())?;
             println!(rt; "")?;
         }
@@ -229,13 +231,13 @@ fn print_long(rt: &HostRuntime) -> io::Result<()> {
 
 // Bytes that are no row: a kind that is none, a number and a text that are cut short; and those of a row of two columns.
 fn print_broken(rt: &HostRuntime) -> io::Result<()> {
-    print!(rt, "03:")?;
+    print!(rt; "03:")?;
     print_read(rt, b"\x03")?;
-    print!(rt, ", 010000:")?;
+    print!(rt; ", 010000:")?;
     print_read(rt, b"\x01\x00\x00")?;
-    print!(rt, ", 02000261:")?;
+    print!(rt; ", 02000261:")?;
     print_read(rt, b"\x02\x00\x02a")?;
-    print!(rt, ", 0002000161:")?;
+    print!(rt; ", 0002000161:")?;
     print_read(rt, b"\x00\x02\x00\x01a")?;
     println!(rt; "")
 }

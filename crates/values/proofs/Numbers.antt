@@ -1,10 +1,10 @@
 -- The order of the code and that of the meaning; `fits` by whether 64 bits hold a number. Assumes nothing.
-use Rattle.std.proofs.Common.{◌≡◌, ℕ, zero, suc, ◌+◌, ◌<◌, ◌≤◌, Bool, List, ◌++◌, length, ℤ, pos, negsuc, IsSomeAnd, Some, None, Option, sym, refl, ap, ◌∙◌, arith, w64, SFits, of_z}
+use Rattle.std.proofs.Common.{◌≡◌, ℕ, zero, suc, ◌+◌, ◌<◌, ◌≤◌, Bool, List, ◌++◌, length, ℤ, pos, negsuc, Some, None, Option, sym, refl, ap, ◌∙◌, arith, w64, SFits, of_z}
 use lib.Signed.{lt_z}
-use Rattle.std.specs.Ordering.{MatchOrdering, Tested, is_lt, nat_cmp}
+use Rattle.std.specs.Ordering.{is_lt, is_some_and, nat_cmp}
 use Rattle.std.specs.Option.{SomeIff}
 use Rattle.values.specs.Meant.{number_or}
-use Rattle.std.specs.Cmp.Lexicographic.{LexSome}
+use Rattle.std.specs.Cmp.Lexicographic.{slice_partial_cmp}
 use Rattle.std.proofs.lemmas.Cmp.{same_from_slice_cmp_tested}
 use Rattle.std.proofs.lemmas.Bool.Decides.{nat_tests}
 use Rattle.std.proofs.lemmas.Bool.{cond-true, cond-false, lt-ltb, le-ltb}
@@ -35,7 +35,7 @@ lt_z-is (negsuc a) (pos b) = refl
 lt_z-is (negsuc a) (negsuc b) = refl
 
 -- `<` on slices
-pub lex-is : (xs ys : List ℕ) (r : Bool) → Tested (LexSome (λ x y o. IsSomeAnd o (λ k. MatchOrdering k (x < y) (x ≡ y) (y < x))) xs ys) is_lt r → r ≡ less_bytes xs ys
+pub lex-is : (xs ys : List ℕ) (r : Bool) → r ≡ is_some_and is_lt (slice_partial_cmp (λ x y. Some (nat_cmp x y)) xs ys) → r ≡ less_bytes xs ys
 unfolding less_bytes
 lex-is = same_from_slice_cmp_tested nat_cmp is_lt less_bytes refl (λ _ _. refl) (λ _ _. refl) (λ x y xs ys o h. grind (arith, nat_tests))
 

@@ -197,10 +197,10 @@ pub fn from_bool(yes: bool) -> Value<'static>
 }
 
 // A result that was tested before it was made.
-fn held(res: Option<i64>) -> Value<'static>
-    ensures { meaning_of result ≡ number_or res }
+fn held(outcome: Option<i64>) -> Value<'static>
+    ensures { meaning_of result ≡ number_or outcome }
 {
-    match res {
+    match outcome {
         Some(n) => Value::Number(n),
         None => Value::Null,
     }

@@ -2,7 +2,9 @@
 // lies in bytes, `key` how a key of an index does, and `back` how a key is read again. Nothing that is computed can fail: what has no result is null. Nothing allocates: bytes are written into
 // memory that the caller lends, and where they have no room, nothing is written and the answer is none.
 // It promises that each result is what the written meaning says, that bytes of a row are read as that row and no others are, and that comparing the bytes of keys is comparing their values
-// column by column, rising or falling, whatever follows the keys. It stands on `meaning` and `bytes`. Start with specs/Meant.antt, then Row and Key; proofs/Bytes.antt has what other crates want of bytes.
+// column by column, rising or falling, whatever follows the keys. It stands on `meaning` and `octets`. Start with specs/Meant.antt, then Row and Key; proofs/Bytes.antt has what other crates want of bytes.
+#![tactic(auto)]
+
 pub mod back;
 pub mod compute;
 mod digits;

@@ -11,5 +11,5 @@ returns c = λ f.
     let e : c.count-n.result ≡ n = c.count-n.ensures in
     let a = start-least page n n f (omega arith) in
     let b = start-most page n n f (omega arith) in
-    let s : c.start-of-end.result ≡ start_of page n = c.start-of-end.ensures.is (omega arith) ∙ ap (start_of page) e in
-    omega (arith, weighs page f, c.saturating-sub.ensures)
+    let s : c.start_of-end.result ≡ start_of page n = c.start_of-end.ensures.is (omega arith) ∙ ap (start_of page) e in
+    omega (arith, weighs page f, c.saturating_sub.ensures)

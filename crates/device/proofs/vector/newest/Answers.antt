@@ -1,4 +1,4 @@
-use Rattle.std.proofs.Common.{◌≡◌, ◌≤◌, length, vec_items, refl, ap, arith, take_all}
+use Rattle.std.proofs.Common.{◌≤◌, length, vec_items, ap, arith, take_all}
 use Rattle.device.specs.Vector.{since_of}
 use Rattle.device.proofs.Since.{passed-by, newest-at}
 use Rattle.device.proofs.vector.newest.Goals as goal

@@ -12,7 +12,7 @@ loop-k-preserved c =
     let w = c.args.present.now in
     let at = 64 * c.args.i in
     let e = get_or w (at + k) 0 in
-    let z = c.put-entry.ensures.0 in (
-      λ j h. ap (λ (t : List ℕ). raw_in t j) z ∙ raw-more s (λ j. get_or w (at + j) 0) k e (omega arith) c.loop-k.invariant.1 c.put-entry.ensures.1 refl c.loop-k.invariant.0 j h,
+    let z = c.put_entry.ensures.0 in (
+      λ j h. ap (λ (t : List ℕ). raw_in t j) z ∙ raw-more s (λ j. get_or w (at + j) 0) k e (omega arith) c.loop-k.invariant.1 c.put_entry.ensures.1 refl c.loop-k.invariant.0 j h,
       ap length z ∙ length-put s (be 8 e) (8 * k) (let y = length-be 8 e in let n = c.loop-k.invariant.1 in omega arith) ∙ c.loop-k.invariant.1,
     )

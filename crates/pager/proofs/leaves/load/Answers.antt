@@ -8,7 +8,7 @@ loop-k-preserved c =
     let l = c.loop-k.base in
     let k = c.loop-k.k in
     let at = 64 * c.args.i in
-    let e = c.entry-in-e.result in (
+    let e = c.entry_in-e.result in (
       λ p h. get_or-set_other l (at + k) p e 0 (λ r. omega arith) ∙ c.loop-k.invariant.0 p h,
-      load-more l (entry_in c.args.slots c.args.sector.now) at k e (omega arith) c.entry-in-e.ensures c.loop-k.invariant.1,
+      load-more l (entry_in c.args.slots c.args.sector.now) at k e (omega arith) c.entry_in-e.ensures c.loop-k.invariant.1,
     )

@@ -10,11 +10,11 @@ returns-then-size-lt4096 c =
       whole = engine-whole;
     }
 
-pub returns-in-default : goal.returns-in-default
-returns-in-default c = record { opened = record { least = omega arith; most = omega arith }; whole = engine-whole }
+pub returns-in_default : goal.returns-in_default
+returns-in_default c = record { opened = record { least = omega arith; most = omega arith }; whole = engine-whole }
 
-pub returns-in-default-new : goal.returns-in-default-new
-returns-in-default-new c = record { opened = record { least = omega arith; most = omega arith }; whole = engine-whole }
+pub returns-in_default-new : goal.returns-in_default-new
+returns-in_default-new c = record { opened = record { least = omega arith; most = omega arith }; whole = engine-whole }
 
 pub returns : goal.returns
 returns c = record { opened = c.opening.ensures c.args.size c.in-Ok.ensures.opened (c.in-Ok-new.ensures c.args.size); whole = engine-whole }

@@ -14,10 +14,10 @@ pub returns-in-Unknown-Unknown : goal.returns-in-Unknown-Unknown
 unfolding and3
 returns-in-Unknown-Unknown c = search rules
 
-pub returns-in-default : goal.returns-in-default
+pub returns-in_default : goal.returns-in_default
 unfolding and3
-returns-in-default c = search rules
+returns-in_default c = search rules
 
-pub returns-in-default·2 : goal.returns-in-default·2
+pub returns-in_default-2 : goal.returns-in_default-2
 unfolding and3
-returns-in-default·2 c = search rules
+returns-in_default-2 c = search rules

@@ -6,6 +6,6 @@ pub returns-in-Holds : goal.returns-in-Holds
 unfolding holds
 returns-in-Holds c = search rules
 
-pub returns-in-default : goal.returns-in-default
+pub returns-in_default : goal.returns-in_default
 unfolding holds
-returns-in-default c = search rules
+returns-in_default c = search rules

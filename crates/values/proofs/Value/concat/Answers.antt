@@ -6,9 +6,9 @@ use Rattle.values.proofs.Numbers.{joined-short}
 use Rattle.values.proofs.Bytes.{two-copies}
 use Rattle.values.proofs.Value.concat.Goals as goal
 
-pub returns-in-default : goal.returns-in-default
+pub returns-in_default : goal.returns-in_default
 unfolding joined
-returns-in-default c = search rules
+returns-in_default c = search rules
 
 pub returns-then-a-gt-LONGEST : goal.returns-then-a-gt-LONGEST
 unfolding joined
@@ -19,7 +19,7 @@ unfolding joined
 returns c =
     let a = c.in-Text-Text.a.now in
     let b = c.in-Text-Text.b.now in
-    ap Text (two-copies a b c.copy-from-slice.new.self c.copy-from-slice-2.new.self c.args.out.now c.copy-from-slice.ensures.after c.copy-from-slice-2.ensures.after (omega arith))
+    ap Text (two-copies a b c.copy_from_slice.new.self c.copy_from_slice-2.new.self c.args.out.now c.copy_from_slice.ensures.after c.copy_from_slice-2.ensures.after (omega arith))
     ∙ joined-short a b (omega arith)
     ∙ ap (λ v. joined (meaning_of v) (Text b)) (sym c.in-Text-Text.is-0)
     ∙ ap (λ v. joined (meaning_of c.args.self) (meaning_of v)) (sym c.in-Text-Text.is-1)

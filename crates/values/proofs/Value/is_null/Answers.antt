@@ -6,6 +6,6 @@ pub returns-in-Null : goal.returns-in-Null
 unfolding is_null
 returns-in-Null c = search rules
 
-pub returns-in-default : goal.returns-in-default
+pub returns-in_default : goal.returns-in_default
 unfolding is_null
-returns-in-default c = search rules
+returns-in_default c = search rules

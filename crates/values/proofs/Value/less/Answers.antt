@@ -23,10 +23,10 @@ pub returns-in-Text-Text : goal.returns-in-Text-Text
 unfolding less
 returns-in-Text-Text c = let e = lex-is c.in-Text-Text.a.now c.in-Text-Text.b.now c.lt.result c.lt.ensures in search rules
 
-pub returns-in-default : goal.returns-in-default
+pub returns-in_default : goal.returns-in_default
 unfolding less
-returns-in-default c = search rules
+returns-in_default c = search rules
 
-pub returns-in-default·2 : goal.returns-in-default·2
+pub returns-in_default-2 : goal.returns-in_default-2
 unfolding less
-returns-in-default·2 c = search rules
+returns-in_default-2 c = search rules

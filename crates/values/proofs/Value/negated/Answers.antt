@@ -3,9 +3,9 @@ use Rattle.meaning.specs.Value.{arithmetic}
 use Rattle.values.proofs.Numbers.{checked-is}
 use Rattle.values.proofs.Value.negated.Goals as goal
 
-pub returns-in-default : goal.returns-in-default
+pub returns-in_default : goal.returns-in_default
 unfolding arithmetic
-returns-in-default c = search rules
+returns-in_default c = search rules
 
 pub returns : goal.returns
 unfolding arithmetic

@@ -15,4 +15,4 @@ returns-in-Number c = let f : SFits w64 c.in-Number.field-0 = search rules in re
 
 pub returns-in-Text : goal.returns-in-Text
 unfolding weight
-returns-in-Text c = record { value = c.text-weight.ensures.value ∙ ap (λ v. weight (meaning_of v)) (sym c.in-Text.is); storable = subst (λ v. Storable (meaning_of v)) (sym c.in-Text.is) c.text-weight.ensures.bytes }
+returns-in-Text c = record { value = c.text_weight.ensures.value ∙ ap (λ v. weight (meaning_of v)) (sym c.in-Text.is); storable = subst (λ v. Storable (meaning_of v)) (sym c.in-Text.is) c.text_weight.ensures.bytes }

@@ -17,5 +17,5 @@ returns-in-1 c = (λ room. end-left c.args.bytes.now c.args.from room c.if-bytes
 pub returns-in-255 : goal.returns-in-255
 returns-in-255 c = (λ room. zero_left c.args.bytes.now c.args.from room c.if-bytes-from-lt2.false c.if-byte-ne0.false c.in-255.is, omega arith, omega arith)
 
-pub returns-in-default : goal.returns-in-default
-returns-in-default c = λ room. broken-left c.args.bytes.now c.args.from room c.if-bytes-from-lt2.false c.if-byte-ne0.false (λ e. omega (arith, e)) (λ e. omega (arith, e))
+pub returns-in_default : goal.returns-in_default
+returns-in_default c = λ room. broken-left c.args.bytes.now c.args.from room c.if-bytes-from-lt2.false c.if-byte-ne0.false (λ e. omega (arith, e)) (λ e. omega (arith, e))

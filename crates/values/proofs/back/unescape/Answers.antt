@@ -15,8 +15,8 @@ returns-then-len-eq-LONGEST c =
 pub bounds-out-len : goal.bounds-out-len
 bounds-out-len c = omega arith
 
-pub overflow-add-len : goal.overflow-add-len
-overflow-add-len c = search rules
+pub overflow_add-len : goal.overflow_add-len
+overflow_add-len c = search rules
 
 pub bytes-smaller : goal.bytes-smaller
 bytes-smaller c = omega (arith, c.in-Byte.ensures.1, c.in-Byte.ensures.2)

@@ -8,13 +8,13 @@ use Rattle.values.specs.Key.{lifted, escaped, rising_code}
 use Rattle.values.proofs.Bytes.{put_one, put-cons, length-be}
 use Rattle.values.proofs.key.put_rising.Goals as goal
 
-pub put-u64-requires : goal.put-u64-requires
+pub put_u64-requires : goal.put_u64-requires
 unfolding weight rising_code
-put-u64-requires c = let w = ap (λ v. weight (meaning_of v)) c.in-Number.is in simp length-set (omega (arith, w))
+put_u64-requires c = let w = ap (λ v. weight (meaning_of v)) c.in-Number.is in simp length-set (omega (arith, w))
 
-pub put-escaped-requires : goal.put-escaped-requires
+pub put_escaped-requires : goal.put_escaped-requires
 unfolding weight rising_code
-put-escaped-requires c = let w = ap (λ v. weight (meaning_of v)) c.in-Text.is in simp length-set (omega (arith, w))
+put_escaped-requires c = let w = ap (λ v. weight (meaning_of v)) c.in-Text.is in simp length-set (omega (arith, w))
 
 pub returns-in-Null : goal.returns-in-Null
 unfolding weight rising_code
@@ -28,7 +28,7 @@ returns-in-Number c =
     record {
       place = ap (λ n. c.args.at + suc n) (sym (length-be 8 (lifted c.in-Number.n))) ∙ ap (λ v. c.args.at + length (rising_code (meaning_of v))) (sym c.in-Number.is);
       bytes =
-          c.put-u64.ensures
+          c.put_u64.ensures
           ∙ ap (λ n. put (set c.args.out.now c.args.at 2) (c.args.at + 1) (be 8 n)) e
           ∙ put-cons c.args.out.now (be 8 (lifted c.in-Number.n)) c.args.at (c.args.at + 1) 2 refl (omega arith)
           ∙ ap (λ v. put c.args.out.now c.args.at (rising_code (meaning_of v))) (sym c.in-Number.is);
@@ -39,9 +39,9 @@ unfolding weight rising_code
 returns-in-Text c =
     let text = c.in-Text.text.now in
     record {
-      place = c.put-escaped.ensures.place ∙ (let e : c.args.at + 1 + length (escaped text) ≡ c.args.at + suc (length (escaped text)) = omega arith in e) ∙ ap (λ v. c.args.at + length (rising_code (meaning_of v))) (sym c.in-Text.is);
+      place = c.put_escaped.ensures.place ∙ (let e : c.args.at + 1 + length (escaped text) ≡ c.args.at + suc (length (escaped text)) = omega arith in e) ∙ ap (λ v. c.args.at + length (rising_code (meaning_of v))) (sym c.in-Text.is);
       bytes =
-          c.put-escaped.ensures.bytes
+          c.put_escaped.ensures.bytes
           ∙ put-cons c.args.out.now (escaped text) c.args.at (c.args.at + 1) 3 refl (omega arith)
           ∙ ap (λ v. put c.args.out.now c.args.at (rising_code (meaning_of v))) (sym c.in-Text.is);
     }

@@ -6,14 +6,14 @@ use Rattle.values.proofs.row.column.Goals as goal
 pub loop-left-init : goal.loop-left-init
 loop-left-init c = refl
 
-pub returns-in-default : goal.returns-in-default
-returns-in-default c = sym (column-none c.loop-left.left c.loop-left.rest.now (sym c.in-default.ensures)) ∙ c.loop-left.invariant
+pub returns-in_default : goal.returns-in_default
+returns-in_default c = sym (column-none c.loop-left.left c.loop-left.rest.now (sym c.in_default.ensures)) ∙ c.loop-left.invariant
 
 pub loop-left-preserved : goal.loop-left-preserved
 loop-left-preserved c = sym (column-more c.loop-left.left c.loop-left.rest.now (seen c.in-Some.first) (omega arith) (sym c.in-Some.ensures)) ∙ c.loop-left.invariant
 
-pub returns-in-default-first-value : goal.returns-in-default-first-value
-returns-in-default-first-value c = sym (column-none c.loop-left.left c.loop-left.rest.now (sym c.in-default-first-value.ensures)) ∙ c.loop-left.invariant
+pub returns-in_default-first_value : goal.returns-in_default-first_value
+returns-in_default-first_value c = sym (column-none c.loop-left.left c.loop-left.rest.now (sym c.in_default-first_value.ensures)) ∙ c.loop-left.invariant
 
 pub returns : goal.returns
-returns c = sym (column-here c.loop-left.left c.loop-left.rest.now (seen c.in-Some-first-value.first) (omega arith) (sym c.in-Some-first-value.ensures)) ∙ c.loop-left.invariant
+returns c = sym (column-here c.loop-left.left c.loop-left.rest.now (seen c.in-Some-first_value.first) (omega arith) (sym c.in-Some-first_value.ensures)) ∙ c.loop-left.invariant

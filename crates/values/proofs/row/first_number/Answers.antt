@@ -7,4 +7,4 @@ use Rattle.values.proofs.row.first_number.Goals as goal
 pub returns : goal.returns
 returns c =
     let f : SFits w64 c.lower.result = search rules in
-    number-front c.args.bytes.now (to_z w64 (of_z w64 c.lower.result)) c.if-bytes-lt8.false (to_z-of_z w64 c.lower.result f ∙ c.lower.ensures ∙ ap lowered c.get-u64.ensures)
+    number-front c.args.bytes.now (to_z w64 (of_z w64 c.lower.result)) c.if-bytes-lt8.false (to_z-of_z w64 c.lower.result f ∙ c.lower.ensures ∙ ap lowered c.get_u64.ensures)

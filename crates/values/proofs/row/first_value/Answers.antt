@@ -10,10 +10,10 @@ pub returns-in-0 : goal.returns-in-0
 returns-in-0 c = sym (front-parts c.args.bytes.now c.if-bytes-eq0.false ∙ ap (λ k. front_of k (take (length c.args.bytes.now - 1) (drop 1 c.args.bytes.now))) c.in-0.is)
 
 pub returns-in-1 : goal.returns-in-1
-returns-in-1 c = c.first-number.ensures ∙ sym (front-parts c.args.bytes.now c.if-bytes-eq0.false ∙ ap (λ k. front_of k (take (length c.args.bytes.now - 1) (drop 1 c.args.bytes.now))) c.in-1.is)
+returns-in-1 c = c.first_number.ensures ∙ sym (front-parts c.args.bytes.now c.if-bytes-eq0.false ∙ ap (λ k. front_of k (take (length c.args.bytes.now - 1) (drop 1 c.args.bytes.now))) c.in-1.is)
 
 pub returns-in-2 : goal.returns-in-2
-returns-in-2 c = c.first-text.ensures ∙ sym (front-parts c.args.bytes.now c.if-bytes-eq0.false ∙ ap (λ k. front_of k (take (length c.args.bytes.now - 1) (drop 1 c.args.bytes.now))) c.in-2.is)
+returns-in-2 c = c.first_text.ensures ∙ sym (front-parts c.args.bytes.now c.if-bytes-eq0.false ∙ ap (λ k. front_of k (take (length c.args.bytes.now - 1) (drop 1 c.args.bytes.now))) c.in-2.is)
 
-pub returns-in-default : goal.returns-in-default
-returns-in-default c = sym (front-parts c.args.bytes.now c.if-bytes-eq0.false ∙ front-other (get_or c.args.bytes.now 0 0) (take (length c.args.bytes.now - 1) (drop 1 c.args.bytes.now)) (λ e. omega (arith, e)) (λ e. omega (arith, e)) (λ e. omega (arith, e)))
+pub returns-in_default : goal.returns-in_default
+returns-in_default c = sym (front-parts c.args.bytes.now c.if-bytes-eq0.false ∙ front-other (get_or c.args.bytes.now 0 0) (take (length c.args.bytes.now - 1) (drop 1 c.args.bytes.now)) (λ e. omega (arith, e)) (λ e. omega (arith, e)) (λ e. omega (arith, e)))

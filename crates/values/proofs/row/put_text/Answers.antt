@@ -9,7 +9,7 @@ pub returns : goal.returns
 returns c = record {
   place = refl;
   bytes =
-      put_is (c.args.at + 2) (c.args.at + 2 + length c.args.text.now - (c.args.at + 2)) c.put-u16.new.out c.copy-from-slice.new.self c.args.text.now c.copy-from-slice.ensures.after (omega arith)
-      ∙ ap (λ t. put t (c.args.at + 2) c.args.text.now) c.put-u16.ensures
+      put_is (c.args.at + 2) (c.args.at + 2 + length c.args.text.now - (c.args.at + 2)) c.put_u16.new.out c.copy_from_slice.new.self c.args.text.now c.copy_from_slice.ensures.after (omega arith)
+      ∙ ap (λ t. put t (c.args.at + 2) c.args.text.now) c.put_u16.ensures
       ∙ put-put c.args.out.now (be 2 (length c.args.text.now)) c.args.text.now c.args.at (c.args.at + 2) (let e = length-be 2 (length c.args.text.now) in omega arith) (let e = length-be 2 (length c.args.text.now) in omega (arith, c.requires.room));
 }

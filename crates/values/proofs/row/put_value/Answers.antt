@@ -17,17 +17,17 @@ pub bounds-out-at-in-Number : goal.bounds-out-at-in-Number
 unfolding weight bytes_of
 bounds-out-at-in-Number c = let w = ap (λ v. weight (meaning_of v)) c.in-Number.is in omega (arith, w, c.requires.room)
 
-pub put-u64-requires : goal.put-u64-requires
+pub put_u64-requires : goal.put_u64-requires
 unfolding weight bytes_of
-put-u64-requires c = let w = ap (λ v. weight (meaning_of v)) c.in-Number.is in simp length-set (omega (arith, w, c.requires.room))
+put_u64-requires c = let w = ap (λ v. weight (meaning_of v)) c.in-Number.is in simp length-set (omega (arith, w, c.requires.room))
 
 pub bounds-out-at-in-Text : goal.bounds-out-at-in-Text
 unfolding weight bytes_of
 bounds-out-at-in-Text c = let w = ap (λ v. weight (meaning_of v)) c.in-Text.is in omega (arith, w, c.requires.room)
 
-pub put-text-requires : goal.put-text-requires
+pub put_text-requires : goal.put_text-requires
 unfolding weight bytes_of
-put-text-requires c = let w = ap (λ v. weight (meaning_of v)) c.in-Text.is in record { room = simp length-set (omega (arith, w, c.requires.room)); short = omega (arith, w, c.requires.short) }
+put_text-requires c = let w = ap (λ v. weight (meaning_of v)) c.in-Text.is in record { room = simp length-set (omega (arith, w, c.requires.room)); short = omega (arith, w, c.requires.short) }
 
 pub returns-in-Null : goal.returns-in-Null
 unfolding weight bytes_of
@@ -42,7 +42,7 @@ returns-in-Number c =
     record {
       place = ap (λ v. c.args.at + weight (meaning_of v)) (sym c.in-Number.is);
       bytes =
-          c.put-u64.ensures
+          c.put_u64.ensures
           ∙ ap (λ n. put (set c.args.out.now c.args.at 1) (c.args.at + 1) (be 8 n)) e
           ∙ put-cons c.args.out.now (be 8 (lifted c.in-Number.n)) c.args.at (c.args.at + 1) 1 refl (omega (arith, w, c.requires.room))
           ∙ ap (λ v. put c.args.out.now c.args.at (bytes_of (meaning_of v))) (sym c.in-Number.is);
@@ -54,9 +54,9 @@ returns-in-Text c =
     let w = ap (λ v. weight (meaning_of v)) c.in-Text.is in
     let text = c.in-Text.text.now in
     record {
-      place = c.put-text.ensures.place ∙ (let e : c.args.at + 1 + 2 + length text ≡ c.args.at + (3 + length text) = omega arith in e) ∙ ap (λ v. c.args.at + weight (meaning_of v)) (sym c.in-Text.is);
+      place = c.put_text.ensures.place ∙ (let e : c.args.at + 1 + 2 + length text ≡ c.args.at + (3 + length text) = omega arith in e) ∙ ap (λ v. c.args.at + weight (meaning_of v)) (sym c.in-Text.is);
       bytes =
-          c.put-text.ensures.bytes
+          c.put_text.ensures.bytes
           ∙ put-cons c.args.out.now (be 2 (length text) ++ text) c.args.at (c.args.at + 1) 2 refl (omega (arith, w, c.requires.room))
           ∙ ap (λ v. put c.args.out.now c.args.at (bytes_of (meaning_of v))) (sym c.in-Text.is);
     }

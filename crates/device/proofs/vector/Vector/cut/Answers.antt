@@ -1,4 +1,4 @@
-use Rattle.std.proofs.Common.{◌≡◌, ◌<◌, ◌≤◌, ◌⊎◌, [], length, get_or, take, vec_items, vec_len, sym, refl, ap, ◌∙◌, subst, arith, take_all}
+use Rattle.std.proofs.Common.{◌≡◌, ◌<◌, ◌≤◌, ◌⊎◌, [], length, get_or, vec_items, vec_len, sym, ap, subst, arith, take_all}
 use mathlib.Core.List.{Memᴰ}
 use Rattle.device.specs.Vector.{since_of}
 use Rattle.device.proofs.Since.{some_more, each_all}
@@ -9,11 +9,11 @@ loop-i-preserved c =
     let ws = vec_items c.args.self.now.since in
     let h : c.loop-i.i < length ws = omega (arith, c.args.self.now.since.ok.0, c.len-i-end.ensures, c.loop-i-test.true) in
     let e = subst (λ x. c.index-w.result.now ≡ get_or x c.loop-i.i c.index-w.result.now) c.loop-i.invariant.1 c.index-w.ensures in
-    let n : length (vec_items c.keep-some.new.kept) ≡ vec_len c.keep-some.new.kept = sym c.keep-some.new.kept.ok.0 in
+    let n : length (vec_items c.keep_some.new.kept) ≡ vec_len c.keep_some.new.kept = sym c.keep_some.new.kept.ok.0 in
     let m : vec_len c.loop-i.self.kept ≡ length (vec_items c.loop-i.self.kept) = c.loop-i.self.kept.ok.0 in (
-      omega (arith, n, m, c.keep-some.ensures.long, c.loop-i.invariant.0),
+      omega (arith, n, m, c.keep_some.ensures.long, c.loop-i.invariant.0),
       c.loop-i.invariant.1,
-      λ s l. some_more (vec_items c.args.self.now.kept) ws c.loop-i.i c.index-w.result.now h e (vec_items c.loop-i.self.kept) (vec_items c.keep-some.new.kept) c.keep-some.ensures
+      λ s l. some_more (vec_items c.args.self.now.kept) ws c.loop-i.i c.index-w.result.now h e (vec_items c.loop-i.self.kept) (vec_items c.keep_some.new.kept) c.keep_some.ensures
           (λ t k. c.loop-i.invariant.2 t (omega (arith, m, k))) s (omega (arith, n, l)),
     )
 

@@ -1,4 +1,4 @@
-use Rattle.std.proofs.Common.{◌≡◌, ◌<◌, ◌≤◌, [], length, get_or, take, vec_items, vec_len, sym, refl, ap, ◌∙◌, subst, arith, take_all}
+use Rattle.std.proofs.Common.{◌≡◌, ◌<◌, ◌≤◌, [], length, get_or, vec_items, vec_len, sym, ap, ◌∙◌, subst, arith, take_all}
 use Rattle.device.specs.Device.{latest}
 use Rattle.device.specs.Vector.{since_of}
 use Rattle.device.proofs.Since.{kept_more}

@@ -8,6 +8,6 @@ returns c = record {
   size = refl;
   is = record {
     kept = λ s h. refl;
-    since = λ s. ap (since_of s) c.in-ok-push.ensures.items ∙ since-written s (vec_items c.args.self.now.since) c.args.sector c.args.bytes.now;
+    since = λ s. ap (since_of s) c.in_ok-push.ensures.items ∙ since-written s (vec_items c.args.self.now.since) c.args.sector c.args.bytes.now;
   };
 }

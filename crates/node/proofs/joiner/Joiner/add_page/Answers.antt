@@ -17,6 +17,6 @@ returns c = λ s f some.
     let all : entries_from page 0 (c.count.result - 0) ≡ entries_in page = ap (entries_from page 0) (omega (arith, c.count.ensures)) ∙ sym (entries_from_lem page (count_in page)) in
     let room : weigh taken (entries_in page) ≤ spare (pages_of k) = subst (λ ps. weigh taken (entries_in page) ≤ spare ps) (sym q) (readied-spare page f some (pages_of j)) in
     let paged : 0 < k.len = spare-some (vec_items k.pages) k.len (omega (arith, room, weighs-some page f some)) in
-    let p = c.push-part.ensures r.0 f (omega arith) (omega (arith, c.count.ensures)) paged (subst (λ es. weigh taken es ≤ spare (pages_of k)) (sym all) room) in
-    subst (λ b. JoinedBy j (entries_in page) b c.push-part.new.self) (sym p.0)
+    let p = c.push_part.ensures r.0 f (omega arith) (omega (arith, c.count.ensures)) paged (subst (λ es. weigh taken es ≤ spare (pages_of k)) (sym all) room) in
+    subst (λ b. JoinedBy j (entries_in page) b c.push_part.new.self) (sym p.0)
     (p.1, p.2 ∙ ap (λ es. on_last_all es (pages_of k)) all ∙ ap (on_last_all (entries_in page)) q ∙ readied-joined page f some (pages_of j))

@@ -1,4 +1,4 @@
-use Rattle.std.proofs.Common.{◌≡◌, ◌<◌, [], ◌∷◌, ◌++◌, length, vec_items, ap, ◌∙◌, arith}
+use Rattle.std.proofs.Common.{◌<◌, [], ◌∷◌, ◌++◌, length, vec_items, ap, ◌∙◌, arith}
 use Rattle.node.specs.Joiner.{pages_to}
 use Rattle.node.proofs.Making.{pages-set, formed-set, no-entries}
 use Rattle.node.proofs.joiner.Joiner.open.Goals as goal

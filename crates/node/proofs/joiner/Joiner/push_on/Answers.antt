@@ -1,6 +1,5 @@
-use Rattle.std.proofs.Common.{◌≡◌, ◌-◌, ◌<◌, ◌≤◌, [], length, get_or, vec_items, sym, refl, ap, ◌∙◌, subst, arith}
+use Rattle.std.proofs.Common.{◌≡◌, ◌-◌, ◌<◌, ◌≤◌, [], length, get_or, vec_items, refl, ◌∙◌, arith}
 use Rattle.std.proofs.lemmas.List.{get_or_default}
-use Rattle.node.specs.Node.{count_in, Formed}
 use Rattle.node.proofs.Making.{spare-none, pushed-on, formed-page}
 use Rattle.node.proofs.joiner.Joiner.push_on.Goals as goal
 
@@ -10,9 +9,9 @@ returns c = λ s.
     let len = c.args.self.now.len in
     let some : 0 < len = omega (arith, c.if-len-eq0.false) in
     let there : len ≤ length ps = omega (arith, c.args.self.now.pages.ok.0, c.args.self.now.few, c.args.self.now.room) in
-    let is : c.index-mut.result.now ≡ get_or ps (len - 1) [] = c.index-mut.ensures.value ∙ get_or_default ps (len - 1) c.index-mut.result.now [] (omega arith) in
-    let f = formed-page ps len c.args.key.now c.args.value.now c.index-mut.result.now c.push.new.page some there is s in
-    let p = pushed-on ps len c.args.key.now c.args.value.now c.index-mut.result.now c.push.new.page some there is s c.push.result (c.push.ensures f) in
+    let is : c.index_mut.result.now ≡ get_or ps (len - 1) [] = c.index_mut.ensures.value ∙ get_or_default ps (len - 1) c.index_mut.result.now [] (omega arith) in
+    let f = formed-page ps len c.args.key.now c.args.value.now c.index_mut.result.now c.push.new.page some there is s in
+    let p = pushed-on ps len c.args.key.now c.args.value.now c.index_mut.result.now c.push.new.page some there is s c.push.result (c.push.ensures f) in
     record { sound = p.formed; pages = p.pages; crowded = p.crowd; len = refl }
 
 pub returns-then-len-eq0 : goal.returns-then-len-eq0

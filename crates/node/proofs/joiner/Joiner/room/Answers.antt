@@ -1,4 +1,4 @@
-use Rattle.std.proofs.Common.{◌≡◌, ◌-◌, ◌<◌, ◌≤◌, [], length, get_or, vec_items, sym, refl, ap, ◌∙◌, subst, arith}
+use Rattle.std.proofs.Common.{◌≡◌, ◌-◌, ◌<◌, ◌≤◌, [], length, get_or, vec_items, sym, ap, ◌∙◌, arith}
 use Rattle.std.proofs.lemmas.List.{get_or_default}
 use Rattle.node.proofs.Making.{spare-none, formed-page, spare-page}
 use Rattle.node.proofs.joiner.Joiner.room.Goals as goal
@@ -14,4 +14,4 @@ returns c = λ s.
     let there : len ≤ length ps = omega (arith, c.args.self.now.pages.ok.0, c.args.self.now.few, c.args.self.now.room) in
     let is : c.index.result.now ≡ get_or ps (len - 1) [] = c.index.ensures ∙ get_or_default ps (len - 1) c.index.result.now [] (omega arith) in
     let f = formed-page ps len [] [] c.index.result.now [] some there is s in
-    c.saturating-sub.ensures ∙ ap (λ x. 4088 - x) (c.used.ensures f) ∙ sym (spare-page ps len [] [] c.index.result.now [] some there is s)
+    c.saturating_sub.ensures ∙ ap (λ x. 4088 - x) (c.used.ensures f) ∙ sym (spare-page ps len [] [] c.index.result.now [] some there is s)

@@ -24,7 +24,7 @@ returns-else-i-self c =
           present = e ∙ c.copy.ensures ∙ c.deref.ensures.value;
           owner = subst (λ (t : List ℕ). (p : ℕ) → p < c.args.self.now.pages → get_or b.items p 0 ≤ c.args.self.now.slots →
               (get_or t (get_or b.items p 0) 0 < c.args.self.now.pages) × (get_or b.items (get_or t (get_or b.items p 0) 0) 0 ≡ get_or b.items p 0)) (sym f)
-              (as-linked b.items c.deref-else-i-self.result.now c.link.new.owner c.deref-mut-else-i-self.result.now c.args.self.now.pages c.args.self.now.slots
+              (as-linked b.items c.deref-else-i-self.result.now c.link.new.owner c.deref_mut-else-i-self.result.now c.args.self.now.pages c.args.self.now.slots
               c.deref-else-i-self.ensures.value (omega arith) c.link.ensures);
         },
       );

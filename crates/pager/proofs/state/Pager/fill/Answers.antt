@@ -5,7 +5,7 @@ pub returns : goal.returns
 returns c =
     record {
       at = inr (record {
-        at = c.next-flag-at.result;
+        at = c.next_flag-at.result;
         inside = search rules;
         from = search rules;
         down = search rules;

@@ -11,7 +11,7 @@ returns-then-j-eq7 c =
         long = c.told-given;
         last = c.if-j-eq7.true;
         goes = record { ask = refl; phase = refl; same = record { second = refl; base = refl; present = refl; owner = refl; dirty = refl; behind = refl } };
-        page = with_items_is c.args.self.now.page c.copy-in.new.out (omega arith) ∙ c.copy-in.ensures ∙ ap (λ (t : List ℕ). put t (512 * c.args.j) c.args.given.now) c.deref-mut.ensures.value;
+        page = with_items_is c.args.self.now.page c.copy_in.new.out (omega arith) ∙ c.copy_in.ensures ∙ ap (λ (t : List ℕ). put t (512 * c.args.j) c.args.given.now) c.deref_mut.ensures.value;
       }));
       sizes = record { pages = refl; maps = refl; slots = refl };
     }
@@ -25,11 +25,11 @@ returns c =
         fits = search rules;
         less = search rules;
         goes = record {
-          ask = ap (λ t. Read (t + (c.args.j + 1))) c.slot-at.ensures;
+          ask = ap (λ t. Read (t + (c.args.j + 1))) c.slot_at.ensures;
           phase = refl;
           same = record { second = refl; base = refl; present = refl; owner = refl; dirty = refl; behind = refl };
         };
-        page = with_items_is c.args.self.now.page c.copy-in.new.out (omega arith) ∙ c.copy-in.ensures ∙ ap (λ (t : List ℕ). put t (512 * c.args.j) c.args.given.now) c.deref-mut.ensures.value;
+        page = with_items_is c.args.self.now.page c.copy_in.new.out (omega arith) ∙ c.copy_in.ensures ∙ ap (λ (t : List ℕ). put t (512 * c.args.j) c.args.given.now) c.deref_mut.ensures.value;
       });
       sizes = record { pages = refl; maps = refl; slots = refl };
     }

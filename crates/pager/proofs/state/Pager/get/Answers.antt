@@ -8,7 +8,7 @@ returns-then-e-eq0 c =
     record {
       at = inr (inl (record {
         inside = omega arith;
-        none = c.slot-of-e.ensures.none c.if-e-eq0.true;
+        none = c.slot_of-e.ensures.none c.if-e-eq0.true;
         goes = record { ask = refl; phase = refl; same = record { second = refl; base = refl; present = refl; owner = refl; dirty = refl; behind = refl } };
         page = c.fill.ensures.items (λ y e. e) ∙ ap (λ k. replicate k 0) z ∙ zeros-replicate 4096;
       }));

@@ -11,7 +11,7 @@ returns-then-i-self c =
         ask = refl;
         phase = refl;
         second = refl;
-        rest = λ p h. ap (λ (t : List ℕ). get_or t p 0) e ∙ c.load.ensures.rest p h ∙ ap (λ (t : List ℕ). get_or t p 0) c.deref-mut.ensures.value;
+        rest = λ p h. ap (λ (t : List ℕ). get_or t p 0) e ∙ c.load.ensures.rest p h ∙ ap (λ (t : List ℕ). get_or t p 0) c.deref_mut.ensures.value;
         here = λ p h. ap (λ (t : List ℕ). get_or t p 0) e ∙ c.load.ensures.here p h;
       });
       sizes = record { pages = refl; maps = refl; slots = refl };

@@ -4,35 +4,35 @@ use Rattle.std.proofs.lemmas.Result.{IfOk-from_err}
 use Rattle.pager.proofs.Stands.{pager-whole}
 use Rattle.pager.proofs.state.Pager.open.Goals as goal
 
-pub returns-in-err-base : goal.returns-in-err-base
-returns-in-err-base c =
-    let e = c.from-residual.ensures.0 in
-    record { opened = IfOk-from_err c.from-residual.result _ e; memory = IfOk-from_err c.from-residual.result _ e; whole = pager-whole }
+pub returns-in_err-base : goal.returns-in_err-base
+returns-in_err-base c =
+    let e = c.from_residual.ensures.0 in
+    record { opened = IfOk-from_err c.from_residual.result _ e; memory = IfOk-from_err c.from_residual.result _ e; whole = pager-whole }
 
-pub returns-in-err-present : goal.returns-in-err-present
-returns-in-err-present c =
-    let e = c.from-residual-in-err-present.ensures.0 in
-    record { opened = IfOk-from_err c.from-residual-in-err-present.result _ e; memory = IfOk-from_err c.from-residual-in-err-present.result _ e; whole = pager-whole }
+pub returns-in_err-present : goal.returns-in_err-present
+returns-in_err-present c =
+    let e = c.from_residual-in_err-present.ensures.0 in
+    record { opened = IfOk-from_err c.from_residual-in_err-present.result _ e; memory = IfOk-from_err c.from_residual-in_err-present.result _ e; whole = pager-whole }
 
-pub returns-in-err-owner : goal.returns-in-err-owner
-returns-in-err-owner c =
-    let e = c.from-residual-in-err-owner.ensures.0 in
-    record { opened = IfOk-from_err c.from-residual-in-err-owner.result _ e; memory = IfOk-from_err c.from-residual-in-err-owner.result _ e; whole = pager-whole }
+pub returns-in_err-owner : goal.returns-in_err-owner
+returns-in_err-owner c =
+    let e = c.from_residual-in_err-owner.ensures.0 in
+    record { opened = IfOk-from_err c.from_residual-in_err-owner.result _ e; memory = IfOk-from_err c.from_residual-in_err-owner.result _ e; whole = pager-whole }
 
-pub returns-in-err-dirty : goal.returns-in-err-dirty
-returns-in-err-dirty c =
-    let e = c.from-residual-in-err-dirty.ensures.0 in
-    record { opened = IfOk-from_err c.from-residual-in-err-dirty.result _ e; memory = IfOk-from_err c.from-residual-in-err-dirty.result _ e; whole = pager-whole }
+pub returns-in_err-dirty : goal.returns-in_err-dirty
+returns-in_err-dirty c =
+    let e = c.from_residual-in_err-dirty.ensures.0 in
+    record { opened = IfOk-from_err c.from_residual-in_err-dirty.result _ e; memory = IfOk-from_err c.from_residual-in_err-dirty.result _ e; whole = pager-whole }
 
-pub returns-in-err-behind : goal.returns-in-err-behind
-returns-in-err-behind c =
-    let e = c.from-residual-in-err-behind.ensures.0 in
-    record { opened = IfOk-from_err c.from-residual-in-err-behind.result _ e; memory = IfOk-from_err c.from-residual-in-err-behind.result _ e; whole = pager-whole }
+pub returns-in_err-behind : goal.returns-in_err-behind
+returns-in_err-behind c =
+    let e = c.from_residual-in_err-behind.ensures.0 in
+    record { opened = IfOk-from_err c.from_residual-in_err-behind.result _ e; memory = IfOk-from_err c.from_residual-in_err-behind.result _ e; whole = pager-whole }
 
-pub returns-in-err-page : goal.returns-in-err-page
-returns-in-err-page c =
-    let e = c.from-residual-in-err-page.ensures.0 in
-    record { opened = IfOk-from_err c.from-residual-in-err-page.result _ e; memory = IfOk-from_err c.from-residual-in-err-page.result _ e; whole = pager-whole }
+pub returns-in_err-page : goal.returns-in_err-page
+returns-in_err-page c =
+    let e = c.from_residual-in_err-page.ensures.0 in
+    record { opened = IfOk-from_err c.from_residual-in_err-page.result _ e; memory = IfOk-from_err c.from_residual-in_err-page.result _ e; whole = pager-whole }
 
 pub returns : goal.returns
 returns c =

@@ -13,8 +13,8 @@ returns c =
         second = refl;
         base = refl;
         present = λ p l. ap (λ (t : List ℕ). get_or t p 0) (with_items_is s.present c.settle.new.out (omega arith)) ∙ c.settle.ensures p (omega arith)
-            ∙ settled-as (vec_items s.dirty) (vec_items s.base) (vec_items s.present) c.deref-2.result.now c.deref.result.now c.deref-mut.result.now p
-            c.deref-2.ensures.value c.deref.ensures.value c.deref-mut.ensures.value;
+            ∙ settled-as (vec_items s.dirty) (vec_items s.base) (vec_items s.present) c.deref-2.result.now c.deref.result.now c.deref_mut.result.now p
+            c.deref-2.ensures.value c.deref.ensures.value c.deref_mut.ensures.value;
         owner = refl;
         behind = refl;
       };
