@@ -1,4 +1,6 @@
 // Reads each line of standard input as a statement, and prints it as it was read, or `no 1` where it is none and `no 10` where it is too long.
+#![tactic(auto)]
+
 ghost use Rattle.std.specs.Prelude.{◌≤◌, length};
 
 use std::alloc::AllocError;

@@ -60,7 +60,7 @@ fn column(out: &mut Vec<u8>, text: &[u8], source: Span, column: Span) -> Result<
 }
 
 // An expression between two texts.
-#[cycle(both_condition_expr_exprs_keys_query_query_within_within)]
+#[cycle(printing)]
 fn within(
     out: &mut Vec<u8>,
     nodes: &Nodes,
@@ -75,7 +75,7 @@ fn within(
     say(out, after)
 }
 
-#[cycle(both_condition_expr_exprs_keys_query_query_within_within)]
+#[cycle(printing)]
 fn both(
     out: &mut Vec<u8>,
     nodes: &Nodes,
@@ -89,7 +89,7 @@ fn both(
     within(out, nodes, text, b"", b, b")", left)
 }
 
-#[cycle(both_condition_expr_exprs_keys_query_query_within_within)]
+#[cycle(printing)]
 fn expr(
     out: &mut Vec<u8>,
     nodes: &Nodes,
@@ -118,7 +118,7 @@ fn expr(
     }
 }
 
-#[cycle(both_condition_expr_exprs_keys_query_query_within_within)]
+#[cycle(printing)]
 fn query_within(
     out: &mut Vec<u8>,
     nodes: &Nodes,
@@ -133,7 +133,7 @@ fn query_within(
 }
 
 // The expressions of a list, with commas.
-#[cycle(both_condition_expr_exprs_keys_query_query_within_within)]
+#[cycle(printing)]
 fn exprs(
     out: &mut Vec<u8>,
     nodes: &Nodes,
@@ -156,7 +156,7 @@ fn exprs(
     Ok(())
 }
 
-#[cycle(both_condition_expr_exprs_keys_query_query_within_within)]
+#[cycle(printing)]
 fn keys(
     out: &mut Vec<u8>,
     nodes: &Nodes,
@@ -183,7 +183,7 @@ fn keys(
 }
 
 // A clause with a condition, left out where it is 1.
-#[cycle(both_condition_expr_exprs_keys_query_query_within_within)]
+#[cycle(printing)]
 fn condition(
     out: &mut Vec<u8>,
     nodes: &Nodes,
@@ -199,7 +199,7 @@ fn condition(
     within(out, nodes, text, word, i, b"", left)
 }
 
-#[cycle(both_condition_expr_exprs_keys_query_query_within_within)]
+#[cycle(printing)]
 fn query(
     out: &mut Vec<u8>,
     nodes: &Nodes,

@@ -1,4 +1,3 @@
-use Rattle.std.proofs.Common.{ℕ, ◌+◌, ◌*◌}
 use Rattle.reading.proofs.printer.+cols.Given as goal
 
 abbrev pub decreases-cols : goal.decreases-cols

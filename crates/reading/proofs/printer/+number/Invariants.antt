@@ -1,4 +1,3 @@
-use Rattle.std.proofs.Common.{ℕ, ◌+◌, ◌*◌}
 use Rattle.reading.proofs.printer.+number.Given as goal
 
 abbrev pub decreases-number : goal.decreases-number

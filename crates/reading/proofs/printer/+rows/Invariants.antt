@@ -1,4 +1,3 @@
-use Rattle.std.proofs.Common.{ℕ, ◌+◌, ◌*◌}
 use Rattle.reading.proofs.printer.+rows.Given as goal
 
 abbrev pub decreases-rows : goal.decreases-rows

@@ -1,4 +1,3 @@
-use Rattle.std.proofs.Common.{ℕ, ◌+◌, ◌*◌}
 use Rattle.reading.proofs.printer.+sets.Given as goal
 
 abbrev pub decreases-sets : goal.decreases-sets

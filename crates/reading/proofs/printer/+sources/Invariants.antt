@@ -1,4 +1,3 @@
-use Rattle.std.proofs.Common.{ℕ, ◌+◌, ◌*◌}
 use Rattle.reading.proofs.printer.+sources.Given as goal
 
 abbrev pub decreases-sources : goal.decreases-sources

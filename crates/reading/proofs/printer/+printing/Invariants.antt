@@ -1,5 +1,5 @@
-use Rattle.std.proofs.Common.{ℕ, ◌+◌, ◌*◌}
-use Rattle.reading.proofs.printer.+both_condition_expr_exprs_keys_query_query_within_within.Given as goal
+use Rattle.std.proofs.Common.{◌+◌, ◌*◌}
+use Rattle.reading.proofs.printer.+printing.Given as goal
 
 abbrev pub decreases-both : goal.decreases-both
 decreases-both l = 4 * l.left + 2
@@ -19,8 +19,8 @@ decreases-keys l = 4 * l.left + 0
 abbrev pub decreases-query : goal.decreases-query
 decreases-query l = 4 * l.left + 0
 
-abbrev pub decreases-query-within : goal.decreases-query-within
-decreases-query-within l = 4 * l.left + 1
+abbrev pub decreases-query_within : goal.decreases-query_within
+decreases-query_within l = 4 * l.left + 1
 
 abbrev pub decreases-within : goal.decreases-within
 decreases-within l = 4 * l.left + 1
