@@ -1,7 +1,7 @@
 -- Worked cases: what is said to a connection, and what it answers.
 use Rattle.std.specs.Prelude.{◌≡◌, ℕ, true, false, List, [], ◌∷◌, map, pos, codes}
 use Prim.Native.String.{String}
-use Rattle.std.specs.List.{AllByRecursion as All}
+use Rattle.std.specs.List.{AllByRecursion}
 use Rattle.meaning.specs.Value.{Value, Null, Num, Text}
 use Rattle.meaning.specs.Meaning.{Row, blank, find_table}
 use Rattle.meaning.specs.Session.{Say, Next, Reply, No, Done, Begun, Gives, End, Connection, fresh, Answers}
@@ -85,4 +85,4 @@ cases =
 
 -- every case is answered as it says
 abbrev pub CasesStand : Type 0
-CasesStand = All (λ (k : Case). Plays k.steps k.start) cases
+CasesStand = AllByRecursion (λ (k : Case). Plays k.steps k.start) cases

@@ -1,6 +1,6 @@
 -- What holds of the definitions: the order of values is one, and tables stay sound whatever is done.
 use Rattle.std.specs.Prelude.{◌≡◌, ℕ, suc, Bool, true, not, ◌&&◌, T, ltb, List, [], ◌∷◌, map, length, ◌==◌, nat_le, nat_lt}
-use Rattle.std.specs.List.{AllByRecursion as All}
+use Rattle.std.specs.List.{AllByRecursion}
 use Rattle.meaning.specs.Value.{Value, less, same}
 use Rattle.meaning.specs.Tree.{Col, Statement, every}
 use Rattle.meaning.specs.Meaning.{Row, Table, Index, Db, blank, find_table, has_table}
@@ -53,7 +53,7 @@ BlankSound = Sound blank
 pub record SoundConnection (c : Connection) : Type 0 where
   pub base : Sound c.base
   pub now : Sound c.now
-  pub marks : All (λ (m : Mark). Sound m.db) c.marks
+  pub marks : AllByRecursion (λ (m : Mark). Sound m.db) c.marks
 
 -- whatever a call may answer leaves them sound
 abbrev pub ConnectionStaysSound : Type 0
