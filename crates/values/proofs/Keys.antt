@@ -1,6 +1,6 @@
 -- Keys as bytes: their order, that none begins another, their length. Assumes nothing.
 use Rattle.std.proofs.Common.{◌≡◌, ℕ, zero, suc, ◌+◌, ◌-◌, ◌*◌, ◌/◌, ◌%◌, ◌^◌, ◌<◌, ◌≤◌, Bool, true, false, cond, not, ◌&&◌, ◌||◌, ltb, List, [], ◌∷◌, ◌++◌, length, ℤ, pos, negsuc, sym, refl, ap, ◌∙◌, append_assoc, append-nil, arith, length-append}
-use Rattle.std.specs.List.{AllByRecursion as All}
+use Rattle.std.specs.List.{AllByRecursion}
 use Rattle.std.proofs.ByRecursion.{All-push}
 use Rattle.std.proofs.lemmas.List.{length-map}
 use Rattle.std.proofs.lemmas.Bool.{ltb-true}
@@ -108,7 +108,7 @@ columns (d ∷ ds) [] ys = Alike
 columns (d ∷ ds) (x ∷ xs) [] = Alike
 columns (d ∷ ds) (x ∷ xs) (y ∷ ys) = next (column d (less x y) (less y x)) (columns ds xs ys)
 
-keys-compared : (ds : List Bool) (xs ys : List Value) → All Storable xs → All Storable ys → length xs ≡ length ys → Compared (code ds xs) (code ds ys) (columns ds xs ys)
+keys-compared : (ds : List Bool) (xs ys : List Value) → AllByRecursion Storable xs → AllByRecursion Storable ys → length xs ≡ length ys → Compared (code ds xs) (code ds ys) (columns ds xs ys)
 unfolding code columns
 keys-compared [] xs ys h k e = alike
 keys-compared (d ∷ ds) [] [] h k e = alike

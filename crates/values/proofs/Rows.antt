@@ -3,7 +3,7 @@ use Rattle.std.proofs.Common.{◌≡◌, ℕ, zero, suc, ◌+◌, ◌-◌, ◌<�
 use Rattle.std.specs.Option.{option_map}
 use Rattle.std.specs.Int.Digits.{number_from_digits}
 use Rattle.std.proofs.ByRecursion.{All-take, All-drop}
-use Rattle.std.proofs.lemmas.List.{take_at, drop_at, take-append-drop, length-take-le, take_all, take_rest, drop-drop, nil_from_length}
+use Rattle.std.proofs.lemmas.List.{take_at, drop_at, take-append-drop, length-take-le, take_all, nil_from_length}
 use Rattle.std.proofs.lemmas.Int.Digits.{number_lt}
 use Rattle.std.proofs.lemmas.Bool.{cond-true, cond-false, lt-ltb, le-ltb, le-leb, leb-true, eqb-true, ltb-true, ltb-false, ne_eqb}
 use Rattle.std.proofs.lemmas.Bool.Decides.{nat_tests}
@@ -11,7 +11,6 @@ use Rattle.meaning.specs.Value.{Value, Null, Num, Text}
 use Rattle.meaning.specs.Meaning.{nth}
 use Rattle.meaning.specs.Doing.{weight, weight_all}
 use Rattle.values.specs.Bytes.{be, Bytes}
-use Rattle.octets.specs.Parts.{part}
 use Rattle.values.specs.Key.{lifted, Storable}
 use Rattle.values.specs.Row.{bytes_of, row_bytes, lowered, Split, text_front, chained, front_of, front, column_of, row_by, row_of, RowsRead, RowsWritten, RowsColumns, RowsWeigh}
 use Rattle.values.proofs.Bytes.{length-be, number-be, be-number}
@@ -280,22 +279,7 @@ front-none bs h = ap front (nil_from_length bs h) ∙ front-nil
 pub front-other : (kind : ℕ) (bs : List ℕ) → (kind ≡ 0 → ⊥) → (kind ≡ 1 → ⊥) → (kind ≡ 2 → ⊥) → front_of kind bs ≡ None
 front-other kind bs h k l = rw (ne_eqb kind 0 h, ne_eqb kind 1 k, ne_eqb kind 2 l) refl
 
-pub number-front : (bs : List ℕ) (z : ℤ) → 8 ≤ length bs → z ≡ lowered (number_from_digits 256 (part bs 0 8)) → Some (record { value = Num z; rest = take (length bs - 8) (drop 8 bs) }) ≡ front_of 1 bs
-number-front bs z h e = (λ i. Some (record { value = Num (e i); rest = take_rest bs 8 i })) ∙ sym (cond-true (leb 8 (length bs)) _ _ (le-leb 8 (length bs) h))
-
-pub text-front : (bs : List ℕ) (n : ℕ) → n ≡ number_from_digits 256 (part bs 0 2) → 2 + n ≤ length bs → Some (record { value = Text (take (2 + n - 2) (drop 2 bs)); rest = take (length bs - (2 + n)) (drop (2 + n) bs) }) ≡ front_of 2 bs
-text-front bs n e h =
-    let m : 2 + n - 2 ≡ n = omega arith in
-    (λ i. Some (record { value = Text (take (m i) (drop 2 bs)); rest = (take_rest bs (2 + n) ∙ sym (drop-drop n 2 bs)) i }))
-    ∙ sym (cond-true (leb n (length (drop 2 bs))) _ _ (le-leb n (length (drop 2 bs)) (let l = length-drop 2 bs in omega arith)))
-    ∙ ap (λ k. text_front k (drop 2 bs)) e
-    ∙ sym (cond-true (leb 2 (length bs)) _ _ (le-leb 2 (length bs) (omega arith)))
-
--- a count of columns begins, goes on and ends
-pub count-start : (o : Option (List Value)) → option_map (λ (vs : List Value). 0 + length vs) o ≡ option_map (λ (vs : List Value). length vs) o
-count-start None = refl
-count-start (Some vs) = ap Some (omega arith)
-
+-- a count of columns goes on and ends
 pub count-more : (n : ℕ) (v : Value) (o : Option (List Value)) → option_map (λ (vs : List Value). n + 1 + length vs) o ≡ option_map (λ (vs : List Value). n + length vs) (option_map (λ (vs : List Value). v ∷ vs) o)
 count-more n v None = refl
 count-more n v (Some vs) = ap Some (omega arith)

@@ -1,7 +1,7 @@
 -- Keys read back: the steps, and that what is written is read and what is read was written. Assumes nothing.
 use Rattle.std.proofs.Common.{◌≡◌, ℕ, zero, suc, ◌+◌, ◌-◌, ◌<◌, ◌≤◌, true, cond, eqb, ◌⊎◌, List, [], ◌∷◌, ◌++◌, length, get_or, take, drop, set, Some, None, Option, sym, refl, ap, ◌∙◌, inl, inr, append_assoc, append-nil, arith, length-drop}
 use Rattle.std.specs.Option.{option_map}
-use Rattle.std.proofs.lemmas.List.{drop_more, drop_all, take_more_set, take_all, take_rest}
+use Rattle.std.proofs.lemmas.List.{drop_more, drop_all, take_more_set, take_all}
 use Rattle.std.proofs.lemmas.Bool.{cond-true, cond-false, eq-eqb, ne_eqb, eqb-true}
 use Rattle.meaning.specs.Value.{Null, Num, Text}
 use Rattle.meaning.specs.Doing.{weight}
@@ -89,12 +89,6 @@ behind-none front room b o e = sym (ap (behind front) (cond-true (eqb room 0) No
 pub behind-end : (front rest : List ℕ) → Some (record { text = front; rest = rest }) ≡ behind front (Some (record { text = []; rest = rest }))
 unfolding behind
 behind-end front rest = λ i. Some (record { text = sym (append-nil front) i; rest = rest })
-
--- the text in the memory that it was taken into
-pub text-back-is : (bs out : List ℕ) (len from : ℕ) → Some (record { text = take len out; rest = drop from bs }) ≡ unescaped 4000 bs → Some (record { value = Text (take (len - 0) (drop 0 out)); rest = take (length bs - from) (drop from bs) }) ≡ text_back bs
-text-back-is bs out len from e =
-    let n : len - 0 ≡ len = omega arith in
-    (λ i. Some (record { value = Text (take (n i) out); rest = take_rest bs from i })) ∙ ap (option_map (λ (t : Taken). record { value = Text t.text; rest = t.rest })) e
 
 -- the first byte of a column
 

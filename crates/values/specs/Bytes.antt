@@ -1,6 +1,6 @@
 -- Numbers as bytes, and bytes turned round.
 use Rattle.std.specs.Prelude.{ℕ, zero, suc, ◌-◌, ◌/◌, ◌%◌, ◌<◌, List, [], ◌∷◌, ◌++◌, map}
-use Rattle.std.specs.List.{AllByRecursion as All}
+use Rattle.std.specs.List.{AllByRecursion}
 
 -- the last k digits of n to the base 256, the highest first
 unfoldable pub be : ℕ → ℕ → List ℕ
@@ -9,7 +9,7 @@ be (suc k) n = be k (n / 256) ++ (n % 256 ∷ [])
 
 -- every number is a byte
 abbrev pub Bytes : List ℕ → Type 0
-Bytes bs = All (λ (b : ℕ). b < 256) bs
+Bytes bs = AllByRecursion (λ (b : ℕ). b < 256) bs
 
 -- each byte taken from 255, so that the order turns round
 abbrev pub turned : List ℕ → List ℕ

@@ -1,6 +1,6 @@
 -- Keys as bytes: comparing the bytes is comparing the values, column by column, each rising or falling.
 use Rattle.std.specs.Prelude.{◌≡◌, ℕ, zero, suc, ◌+◌, ◌-◌, ◌*◌, ◌≤◌, Bool, cond, ◌&&◌, ◌||◌, List, [], ◌∷◌, ◌++◌, length, ℤ, pos, negsuc, nat_le}
-use Rattle.std.specs.List.{AllByRecursion as All}
+use Rattle.std.specs.List.{AllByRecursion}
 use Rattle.meaning.specs.Value.{Value, Null, Num, Text, fits, less_bytes}
 use Rattle.meaning.specs.Meaning.{same_all, earlier}
 use Rattle.meaning.specs.Doing.{weight, key_weight}
@@ -45,19 +45,19 @@ Storable (Text t) = Bytes t
 
 -- comparing the bytes is comparing the values in that order
 abbrev pub KeysOrdered : Type 0
-KeysOrdered = (ds : List Bool) (xs ys : List Value) → All Storable xs → All Storable ys → length xs ≡ length ys → less_bytes (code ds xs) (code ds ys) ≡ earlier ds xs ys
+KeysOrdered = (ds : List Bool) (xs ys : List Value) → AllByRecursion Storable xs → AllByRecursion Storable ys → length xs ≡ length ys → less_bytes (code ds xs) (code ds ys) ≡ earlier ds xs ys
 
 -- what follows two keys decides only where the keys are the same, so a row's number can follow
 abbrev pub KeysFollowed : Type 0
-KeysFollowed = (ds : List Bool) (xs ys : List Value) (r s : List ℕ) → All Storable xs → All Storable ys → length xs ≡ length ds → length ys ≡ length ds → less_bytes (code ds xs ++ r) (code ds ys ++ s) ≡ (earlier ds xs ys || (same_all xs ys && less_bytes r s))
+KeysFollowed = (ds : List Bool) (xs ys : List Value) (r s : List ℕ) → AllByRecursion Storable xs → AllByRecursion Storable ys → length xs ≡ length ds → length ys ≡ length ds → less_bytes (code ds xs ++ r) (code ds ys ++ s) ≡ (earlier ds xs ys || (same_all xs ys && less_bytes r s))
 
 -- the test of two strings of bytes that begin with keys is that of the keys, and where these are the same, of what follows them
 abbrev pub OrdersKeys : List ℕ → List ℕ → Bool → Type 0
-OrdersKeys a b t = (ds : List Bool) (xs ys : List Value) (r s : List ℕ) → All Storable xs → All Storable ys → length xs ≡ length ds → length ys ≡ length ds → a ≡ code ds xs ++ r → b ≡ code ds ys ++ s → t ≡ (earlier ds xs ys || (same_all xs ys && less_bytes r s))
+OrdersKeys a b t = (ds : List Bool) (xs ys : List Value) (r s : List ℕ) → AllByRecursion Storable xs → AllByRecursion Storable ys → length xs ≡ length ds → length ys ≡ length ds → a ≡ code ds xs ++ r → b ≡ code ds ys ++ s → t ≡ (earlier ds xs ys || (same_all xs ys && less_bytes r s))
 
 -- no key is a beginning of another: whatever follows, the same bytes are the same key and the same rest
 abbrev pub KeysApart : Type 0
-KeysApart = (ds : List Bool) (xs ys : List Value) (r s : List ℕ) → All Storable xs → All Storable ys → length xs ≡ length ds → length ys ≡ length ds → code ds xs ++ r ≡ code ds ys ++ s → (xs ≡ ys) × (r ≡ s)
+KeysApart = (ds : List Bool) (xs ys : List Value) (r s : List ℕ) → AllByRecursion Storable xs → AllByRecursion Storable ys → length xs ≡ length ds → length ys ≡ length ds → code ds xs ++ r ≡ code ds ys ++ s → (xs ≡ ys) × (r ≡ s)
 
 -- a key takes at most 1 and twice its weight a column
 abbrev pub KeysShort : Type 0

@@ -2,7 +2,7 @@
 use Rattle.std.specs.Prelude.{◌≡◌, ℕ, zero, suc, ◌+◌, ◌-◌, ◌≤◌, Bool, cond, ◌&&◌, List, [], ◌∷◌, ◌++◌, length, take, drop, ℤ, pos, negsuc, Some, None, Option, ◌==◌, nat_le, nat_lt}
 use Rattle.std.specs.Option.{option_map}
 use Rattle.std.specs.Int.Digits.{number_from_digits}
-use Rattle.std.specs.List.{AllByRecursion as All}
+use Rattle.std.specs.List.{AllByRecursion}
 use Rattle.meaning.specs.Value.{Value, Null, Num, Text}
 use Rattle.meaning.specs.Meaning.{nth}
 use Rattle.meaning.specs.Doing.{weight, weight_all}
@@ -77,7 +77,7 @@ row_of bs = row_by (length bs) bs
 
 -- what is written is read: a row of values that can be stored, of texts whose length 2 bytes hold
 abbrev pub RowsRead : Type 0
-RowsRead = (vs : List Value) → All Storable vs → weight_all vs ≤ 65538 → row_of (row_bytes vs) ≡ Some vs
+RowsRead = (vs : List Value) → AllByRecursion Storable vs → weight_all vs ≤ 65538 → row_of (row_bytes vs) ≡ Some vs
 
 -- bytes that are a row are the bytes of that row
 abbrev pub RowsWritten : Type 0

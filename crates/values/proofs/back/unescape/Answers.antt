@@ -1,4 +1,4 @@
-use Rattle.std.proofs.Common.{◌≡◌, ◌+◌, ◌-◌, take, drop, set, sym, ap, ◌∙◌, arith, rules}
+use Rattle.std.proofs.Common.{◌≡◌, ◌+◌, ◌-◌, take, drop, set, sym, ap, ◌∙◌, arith}
 use Rattle.values.specs.Back.{unescaped}
 use Rattle.values.proofs.Unescaping.{behind, behind-nil, behind_more, behind-none, behind-end}
 use Rattle.values.proofs.back.unescape.Goals as goal
@@ -11,15 +11,6 @@ returns-then-len-eq-LONGEST c =
     let room = 4000 - c.bytes.len in
     let rest = unescaped (room - 1) (drop c.in-Byte.to c.args.bytes.now) in
     record { value = behind-none (take c.bytes.len c.bytes.out) room c.in-Byte.byte rest (omega arith) ∙ ap (behind (take c.bytes.len c.bytes.out)) (sym (c.in-Byte.ensures.0 room)) ∙ c.bytes.invariant.0; within = tt }
-
-pub bounds-out-len : goal.bounds-out-len
-bounds-out-len c = omega arith
-
-pub overflow_add-len : goal.overflow_add-len
-overflow_add-len c = search rules
-
-pub bytes-smaller : goal.bytes-smaller
-bytes-smaller c = omega (arith, c.in-Byte.ensures.1, c.in-Byte.ensures.2)
 
 pub bytes-preserved : goal.bytes-preserved
 bytes-preserved c =

@@ -6,9 +6,6 @@ use Rattle.values.proofs.Writing.{left-zero, left_other, left-none}
 use Rattle.values.proofs.key.put_escaped.Goals.{then-byte-eq0, else-byte-eq0}
 use Rattle.values.proofs.key.put_escaped.Goals as goal
 
-pub loop-byte-init : goal.loop-byte-init
-loop-byte-init c = (refl, refl, omega arith)
-
 pub loop-byte-preserved : goal.loop-byte-preserved
 loop-byte-preserved c =
     let text = c.args.text.now in

@@ -1,12 +1,9 @@
-use Rattle.std.proofs.Common.{◌≡◌, ◌-◌, sym, refl, ap, ◌∙◌, arith}
+use Rattle.std.proofs.Common.{◌≡◌, ◌-◌, sym, ap, ◌∙◌, arith}
 use Rattle.values.specs.Bytes.{turned}
 use Rattle.octets.specs.Parts.{part, put}
 use Rattle.values.proofs.Bytes.{put-nil}
 use Rattle.values.proofs.Writing.{turn_more}
 use Rattle.values.proofs.key.turn.Goals as goal
-
-pub loop-k-init : goal.loop-k-init
-loop-k-init c = refl
 
 pub loop-k-preserved : goal.loop-k-preserved
 loop-k-preserved c = turn_more c.loop-k.out c.loop-k.k c.args.to (omega arith) (omega arith) ∙ c.loop-k.invariant

@@ -1,10 +1,7 @@
-use Rattle.std.proofs.Common.{sym, refl, ◌∙◌, arith}
+use Rattle.std.proofs.Common.{sym, ◌∙◌, arith}
 use Rattle.values.specs.Row.{seen}
 use Rattle.values.proofs.Rows.{column-none, column-here, column-more}
 use Rattle.values.proofs.row.column.Goals as goal
-
-pub loop-left-init : goal.loop-left-init
-loop-left-init c = refl
 
 pub returns-in_default : goal.returns-in_default
 returns-in_default c = sym (column-none c.loop-left.left c.loop-left.rest.now (sym c.in_default.ensures)) ∙ c.loop-left.invariant

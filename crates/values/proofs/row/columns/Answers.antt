@@ -1,18 +1,12 @@
-use Rattle.std.proofs.Common.{◌+◌, List, length, Option, sym, ap, ◌∙◌, arith, rules}
+use Rattle.std.proofs.Common.{◌+◌, List, length, Option, sym, ap, ◌∙◌, arith}
 use Rattle.std.specs.Option.{option_map}
 use Rattle.meaning.specs.Value.{Value}
 use Rattle.values.specs.Row.{row_of, seen}
-use Rattle.values.proofs.Rows.{front-shorter, row-stops, row-front, count-start, count-more, count_none}
+use Rattle.values.proofs.Rows.{front-shorter, row-stops, row-front, count-more, count_none}
 use Rattle.values.proofs.row.columns.Goals as goal
-
-pub loop-rest-init : goal.loop-rest-init
-loop-rest-init c = (count-start (row_of c.args.bytes.now), omega arith)
 
 pub returns-in_default : goal.returns-in_default
 returns-in_default c = ap (λ (o : Option (List Value)). option_map (λ (vs : List Value). c.loop-rest.count + length vs) o) (sym (row-stops (length c.loop-rest.rest.now) c.loop-rest.rest.now (λ e. omega (arith, e)) (sym c.in_default.ensures))) ∙ c.loop-rest.invariant.0
-
-pub overflow_add-count : goal.overflow_add-count
-overflow_add-count c = let l = front-shorter c.loop-rest.rest.now (seen c.in-Some.first) (sym c.in-Some.ensures) in search rules
 
 pub loop-rest-smaller : goal.loop-rest-smaller
 loop-rest-smaller c = front-shorter c.loop-rest.rest.now (seen c.in-Some.first) (sym c.in-Some.ensures)
