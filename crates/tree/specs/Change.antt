@@ -1,6 +1,6 @@
 -- A change of a tree, level by level.
 use Rattle.std.specs.Prelude.{◌≡◌, ℕ, ◌+◌, ◌≤◌, cond, ◌&&◌, List, [], ◌∷◌, ◌++◌}
-use Rattle.std.specs.List.{AllByRecursion as All}
+use Rattle.std.specs.List.{AllByRecursion}
 use Rattle.meaning.specs.Value.{less_bytes}
 use Rattle.tree.specs.Entries.{Entry, Under, Above, Edit, put, del, spot, applies}
 use Rattle.tree.specs.Pages.{Page, concat, Fits, join, Beside, spread}
@@ -16,11 +16,11 @@ pub record Replaced (w : Entry → ℕ) (cap : ℕ) (es : List Edit) (old new : 
   pub after : List Page
   pub leftmost : Beside before left
   pub rightmost : Beside after right
-  pub low : All (λ (e : Edit). Under (spot e) (concat (before ++ left))) es
-  pub high : All (λ (e : Edit). Above (spot e) (concat (right ++ after))) es
+  pub low : AllByRecursion (λ (e : Edit). Under (spot e) (concat (before ++ left))) es
+  pub high : AllByRecursion (λ (e : Edit). Above (spot e) (concat (right ++ after))) es
   pub was : old ≡ before ++ (left ++ ((page ∷ run) ++ (right ++ after)))
   pub news : List Page
-  pub fits : All (Fits w cap) news
+  pub fits : AllByRecursion (Fits w cap) news
   pub holds : concat news ≡ applies es (concat (page ∷ run))
   pub now : new ≡ before ++ (join w cap (left ++ (news ++ right)) ++ after)
 
@@ -28,7 +28,7 @@ pub record Replaced (w : Entry → ℕ) (cap : ℕ) (es : List Edit) (old new : 
 pub data Climbs (w : Entry → ℕ) (cap m : ℕ) : List Node → List Node → List (List Node) → List (List Node) → Type 0 where
   stays : (b : List Node) (more : List (List Node)) → Climbs w cap m b b more more
   ends : (b c : List Node) → Climbs w cap m b c [] []
-  rises : (pre old new post us vs : List Node) (more news : List (List Node)) → All (λ (x : Entry). w x ≤ m) (heads (pre ++ (new ++ post))) → Replaced w cap (raised old new) (pages us) (pages vs) → Climbs w cap m us vs more news →
+  rises : (pre old new post us vs : List Node) (more news : List (List Node)) → AllByRecursion (λ (x : Entry). w x ≤ m) (heads (pre ++ (new ++ post))) → Replaced w cap (raised old new) (pages us) (pages vs) → Climbs w cap m us vs more news →
       Climbs w cap m (pre ++ (old ++ post)) (pre ++ (new ++ post)) (us ∷ more) (vs ∷ news)
 
 -- what the entries weigh that edits put
@@ -40,7 +40,7 @@ puts_weigh w (del k ∷ es) = puts_weigh w es
 -- new top levels, each the heads of the old top, joined
 pub data Topped (w : Entry → ℕ) (cap m : ℕ) (c : List Node) : List (List Node) → List (List Node) → Type 0 where
   as_is : (more : List (List Node)) → Topped w cap m c more more
-  new_top : (more news : List (List Node)) (ns : List Node) → All (λ (x : Entry). w x ≤ m) (heads (top c more)) → pages ns ≡ join w cap (singles (heads (top c more))) → Topped w cap m c (more ++ (ns ∷ [])) news → Topped w cap m c more news
+  new_top : (more news : List (List Node)) (ns : List Node) → AllByRecursion (λ (x : Entry). w x ≤ m) (heads (top c more)) → pages ns ≡ join w cap (singles (heads (top c more))) → Topped w cap m c (more ++ (ns ∷ [])) news → Topped w cap m c more news
 
 -- how many keys lie strictly between two
 unfoldable pub within : List ℕ → List ℕ → List Entry → ℕ

@@ -1,6 +1,6 @@
 -- Entries in the order of their keys, as lists.
 use Rattle.std.specs.Prelude.{◌≡◌, ℕ, Bool, true, false, cond, not, ◌||◌, List, [], ◌∷◌}
-use Rattle.std.specs.List.{AllByRecursion as All}
+use Rattle.std.specs.List.{AllByRecursion}
 use Rattle.meaning.specs.Value.{less_bytes}
 
 pub record Entry : Type 0 where
@@ -37,13 +37,13 @@ first_key (x ∷ xs) = x.key
 
 -- every key is above k; below k; not below k
 abbrev pub Above : List ℕ → List Entry → Type 0
-Above k = All (λ (x : Entry). less_bytes k x.key ≡ true)
+Above k = AllByRecursion (λ (x : Entry). less_bytes k x.key ≡ true)
 
 abbrev pub Under : List ℕ → List Entry → Type 0
-Under k = All (λ (x : Entry). less_bytes x.key k ≡ true)
+Under k = AllByRecursion (λ (x : Entry). less_bytes x.key k ≡ true)
 
 abbrev pub From : List ℕ → List Entry → Type 0
-From k = All (λ (x : Entry). less_bytes x.key k ≡ false)
+From k = AllByRecursion (λ (x : Entry). less_bytes x.key k ≡ false)
 
 -- keys strictly rising
 abbrev pub Rising : List Entry → Type 0

@@ -1,6 +1,6 @@
 -- Looking for a key, level by level.
 use Rattle.std.specs.Prelude.{◌≡◌, ℕ, zero, suc, ◌<◌, true, false, cond, List, [], ◌∷◌, ◌++◌, length}
-use Rattle.std.specs.List.{AllByRecursion as All}
+use Rattle.std.specs.List.{AllByRecursion}
 use Rattle.meaning.specs.Value.{less_bytes}
 use Rattle.tree.specs.Entries.{Entry, first_key, Reply, Nothing, Found, first_from, last_before}
 use Rattle.tree.specs.Pages.{Page}
@@ -105,7 +105,7 @@ seek_before store k h p = cond (less_bytes (first_key (store p)) k) (last_before
 
 -- every page of a tree is in the store, under its name, and has an entry
 abbrev pub Stored : (List ℕ → Page) → List Node → Type 0
-Stored store ns = All (λ (n : Node). (n.items ≡ store n.name) × (0 < length n.items)) ns
+Stored store ns = AllByRecursion (λ (n : Node). (n.items ≡ store n.name) × (0 < length n.items)) ns
 
 -- the levels from one up, to a top of one page
 abbrev pub InStore : (List ℕ → Page) → Node → List Node → List (List Node) → Type 0

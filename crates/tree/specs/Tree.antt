@@ -1,6 +1,6 @@
 -- Levels of pages with names, and the tree that they make.
 use Rattle.std.specs.Prelude.{◌≡◌, ℕ, ◌+◌, ◌≤◌, cond, List, [], ◌∷◌, ◌++◌, length, nat_le}
-use Rattle.std.specs.List.{AllByRecursion as All}
+use Rattle.std.specs.List.{AllByRecursion}
 use Rattle.tree.specs.Entries.{Entry, first_key, Rising, Edit, put, del}
 use Rattle.tree.specs.Pages.{Page, concat, Fits, Apart}
 
@@ -25,14 +25,14 @@ abbrev pub entries : List Node → List Entry
 entries ns = concat (pages ns)
 
 pub record Level (w : Entry → ℕ) (cap : ℕ) (ns : List Node) : Type 0 where
-  pub fit : All (Fits w cap) (pages ns)
+  pub fit : AllByRecursion (Fits w cap) (pages ns)
   pub apart : Apart w cap (pages ns)
   pub rising : Rising (entries ns)
 
 -- the levels above one: each has the heads of the one below, entries of at most m, and only the top is one page
 abbrev pub Stands : (Entry → ℕ) → ℕ → ℕ → List Node → List (List Node) → Type 0
 Stands w cap m below [] = length below ≡ 1
-Stands w cap m below (ns ∷ more) = Level w cap ns × All (λ (x : Entry). w x ≤ m) (entries ns) × (entries ns ≡ heads below) × (2 ≤ length below) × Stands w cap m ns more
+Stands w cap m below (ns ∷ more) = Level w cap ns × AllByRecursion (λ (x : Entry). w x ≤ m) (entries ns) × (entries ns ≡ heads below) × (2 ≤ length below) × Stands w cap m ns more
 
 unfoldable pub count_all : List (List Node) → ℕ
 count_all [] = 0
@@ -58,7 +58,7 @@ singles (x ∷ xs) = (x ∷ []) ∷ singles xs
 -- as Stands, but for the height: levels above one, each with the heads of the one below
 abbrev pub Linked : (Entry → ℕ) → ℕ → ℕ → List Node → List (List Node) → Type 0
 Linked w cap m below [] = Unit {0}
-Linked w cap m below (ns ∷ more) = Level w cap ns × All (λ (x : Entry). w x ≤ m) (entries ns) × (entries ns ≡ heads below) × Linked w cap m ns more
+Linked w cap m below (ns ∷ more) = Level w cap ns × AllByRecursion (λ (x : Entry). w x ≤ m) (entries ns) × (entries ns ≡ heads below) × Linked w cap m ns more
 
 unfoldable pub top : List Node → List (List Node) → List Node
 top below [] = below
