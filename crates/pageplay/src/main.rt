@@ -12,6 +12,7 @@ use model::{Model, PAGES};
 use pager::Pager;
 use pages::{Frames, PageCall, PageReply};
 use std::alloc::{AllocError, Global};
+use std::process::ExitCode;
 use std::{env, io};
 
 // What was done, and how often an answer was not the model's.
@@ -238,15 +239,23 @@ fn say_costs(rt: &HostRuntime) -> io::Result<()> {
 }
 
 // With a number: so many rounds from each seed, and nothing else.
-fn main(rt: HostRuntime) -> io::Result<()> {
-    let mut args = env::args(&rt)?;
+fn played(rt: &HostRuntime) -> io::Result<()> {
+    let mut args = env::args(rt)?;
     let _ = args.next();
     let Some(word) = args.next() else {
-        rehearse_all(&rt, 1500)?;
-        return say_costs(&rt);
+        rehearse_all(rt, 1500)?;
+        return say_costs(rt);
     };
     match word.as_str().parse::<u32>() {
-        Ok(rounds) => rehearse_all(&rt, rounds),
+        Ok(rounds) => rehearse_all(rt, rounds),
         Err(_) => Err(io::Error::from(io::ErrorKind::InvalidInput)),
+    }
+}
+
+// A word that is no number, and a line that can't be written, show in the status alone.
+fn main(rt: HostRuntime) -> ExitCode {
+    match played(&rt) {
+        Ok(()) => ExitCode::SUCCESS,
+        Err(_) => ExitCode::FAILURE,
     }
 }
