@@ -9,8 +9,11 @@ run: $(TABLES)
 	@test -e $(DEVICE) || truncate -s $(SIZE) $(DEVICE)
 	@$(TABLES) $(DEVICE)
 
+# `rt run` alone builds a program; /dev/null is no device, so that run ends at once
 $(TABLES): crates.txt $(shell find crates -name '*.rt' -not -path '*/out/*')
-	@rt check tables >/dev/null
+	@echo 'proving and building tables ..' >&2
+	@rm -f $@
+	@(cd crates/tables && rt run -- /dev/null) >/dev/null 2>&1; test -x $@
 
 test:
 	@.ci/run

@@ -1,5 +1,5 @@
 // A node: a page of the tree as bytes. It is read in place, by parts of the page, and searched by halving; a page that is
-// garbled is read without harm. It stands on `bytes`, and what its entries are is said by `tree`.
+// garbled is read without harm. It stands on `octets`, and what its entries are is said by `tree`.
 #![tactic(auto)]
 
 ghost use Rattle.std.specs.Prelude.{◌≡◌, ℕ, ◌+◌, ◌*◌, ◌<◌, ◌≤◌, List, [], ◌∷◌, ◌++◌, length};

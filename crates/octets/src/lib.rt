@@ -2,9 +2,8 @@
 // bytes end, a single byte past the end is 0; `put_bytes`, `put_u16` and `put_u64` write nothing where there is no room, while `copy_in` and
 // `put_pair` ask for room. A write is an equation with `put`, so that what it leaves unchanged is known. A number has its highest byte first.
 //
-// All that is true of bytes in general stands here, for all crates above: what is meant in specs/Parts.antt and specs/Numbers.antt; the laws of
-// parts and writes in proofs/Parts.antt, of numbers as bytes in proofs/Numbers.antt, of the order in proofs/Order.antt, and in
-// proofs/Compared.antt that numbers as bytes are in the order of numbers.
+// What is meant stands in specs/Parts.antt and specs/Numbers.antt; laws for the crates above, of parts and writes in proofs/Parts.antt, of numbers
+// as bytes in proofs/Numbers.antt, of the order in proofs/Order.antt, and in proofs/Compared.antt that numbers as bytes are in the order of numbers.
 #![tactic(auto)]
 
 ghost use Rattle.std.specs.Prelude.{◌≡◌, ◌+◌, ◌<◌, ◌≤◌, length, replicate, slice_index};

@@ -161,7 +161,7 @@ fn told(rt: &HostRuntime) -> Result<(), io::Error> {
     }
 }
 
-// What went wrong was said in one line by then; the status says that it did.
+// An error that `main` returned would be printed beside the line that `told` writes, so it ends by its status.
 fn main(rt: HostRuntime) -> ExitCode {
     match told(&rt) {
         Ok(()) => ExitCode::SUCCESS,

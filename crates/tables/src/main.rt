@@ -143,7 +143,7 @@ fn run_named(rt: &HostRuntime) -> Result<(), io::Error> {
     }
 }
 
-// What went wrong was said in one line by then; the status says that it did.
+// An error that `main` returned would be printed beside the line that `run` writes, so it ends by its status.
 fn main(rt: HostRuntime) -> ExitCode {
     match run_named(&rt) {
         Ok(()) => ExitCode::SUCCESS,
