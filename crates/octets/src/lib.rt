@@ -81,9 +81,10 @@ pub fn put_bytes(out: &mut [u8], at: usize, bytes: &[u8])
     if at > out.len() || len > out.len() - at {
         return;
     }
-    out[at..at + len].copy_from_slice(bytes);
+    copy_in(out, at, bytes);
 }
 
+// A number goes to its place in two bytes.
 pub fn put_pair(out: &mut [u8], at: usize, number: usize)
     requires { (at + 2 ≤ length out.old) × (number < 65536) }
     ensures { out.new ≡ put out.old at (pair_of number) }
