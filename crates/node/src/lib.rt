@@ -9,7 +9,7 @@ ghost use Rattle.tree.specs.Pages.{weigh};
 ghost use Rattle.node.specs.Look.{Picked};
 ghost use Rattle.node.specs.Node.{count_in, start_of, key_at, value_at, entry_at, entries_in, Formed, Sorted, Parted, Cleared, Written, Pushed};
 
-use octets::{copy_in, fill_zero, less, pair_at, part_of, put_pair};
+use octets::{fill_zero, get_u16, less, part_of, put_bytes, put_u16};
 
 pub mod joiner;
 
@@ -22,7 +22,7 @@ const FIRST: usize = 8;
 pub fn count(page: &[u8; 4096]) -> usize
     ensures { result ≡ count_in page.now }
 {
-    pair_at(page, 2)
+    usize::from(get_u16(page, 2))
 }
 
 // Where an entry begins; 0 for one that no page has room for.
@@ -36,18 +36,15 @@ fn start_of(page: &[u8; 4096], i: usize) -> usize
     if i > 2047 {
         return 0;
     }
-    pair_at(page, PAGE - 2 * i)
+    usize::from(get_u16(page, PAGE - 2 * i))
 }
 
 // The length of the key of the entry that begins at a place.
 fn key_len(page: &[u8; 4096], start: usize) -> usize
-    ensures is { start < 4095 → result ≡ pair page.now start }
+    ensures is { result ≡ pair page.now start }
     ensures small { result < 65536 }
 {
-    if start >= PAGE - 1 {
-        return 0;
-    }
-    pair_at(page, start)
+    usize::from(get_u16(page, start))
 }
 
 // The key of an entry, as a part of its page.
@@ -117,11 +114,11 @@ fn write_entry(page: &mut [u8; 4096], n: usize, at: usize, key: &[u8], value: &[
     ensures { Written page.old n at key.now value.now page.new }
 {
     let end = at + 2 + key.len() + value.len();
-    put_pair(page, at, key.len());
-    copy_in(page, at + 2, key);
-    copy_in(page, at + 2 + key.len(), value);
-    put_pair(page, PAGE - 2 * (n + 1), end);
-    put_pair(page, 2, n + 1);
+    put_u16(page, at, key.len() as u16);
+    put_bytes(page, at + 2, key);
+    put_bytes(page, at + 2 + key.len(), value);
+    put_u16(page, PAGE - 2 * (n + 1), end as u16);
+    put_u16(page, 2, (n + 1) as u16);
 }
 
 // Adds an entry behind the others, if there is room.

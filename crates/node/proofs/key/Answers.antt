@@ -8,6 +8,6 @@ pub returns : goal.returns
 returns c = λ n h l.
     let p = placed c.args.page.now n c.args.i h l in
     let s : c.start_of-start.result ≡ start_of c.args.page.now c.args.i = c.start_of-start.ensures.is (omega arith) in
-    let k : c.key_len.result ≡ pair c.args.page.now c.start_of-start.result = c.key_len.ensures.is (omega arith) in
+    let k : c.key_len.result ≡ pair c.args.page.now c.start_of-start.result = c.key_len.ensures.is in
     let q = c.part_of.ensures in
     cc

@@ -8,7 +8,7 @@ pub returns : goal.returns
 returns c = λ n h l.
     let p = placed c.args.page.now n c.args.i h l in
     let s : c.start_of-start.result ≡ start_of c.args.page.now c.args.i = c.start_of-start.ensures.is (omega arith) in
-    let k : c.key_len.result ≡ pair c.args.page.now c.start_of-start.result = c.key_len.ensures.is (omega arith) in
+    let k : c.key_len.result ≡ pair c.args.page.now c.start_of-start.result = c.key_len.ensures.is in
     let j : c.saturating_add.result ≡ c.args.i + 1 = omega (arith, c.saturating_add.ensures) in
     let e : c.start_of-end.result ≡ start_of c.args.page.now c.saturating_add.result = c.start_of-end.ensures.is (omega arith) in
     value-is c.args.page.now c.part_of.result.now c.args.i c.start_of-start.result c.key_len.result c.start_of-end.result _ c.saturating_sub.result
