@@ -1,6 +1,6 @@
 use Rattle.std.proofs.Common.{rules}
 use Rattle.meaning.specs.Value.{from_truth}
-use Rattle.values.proofs.Truth.value.Goals as goal
+use Rattle.values.proofs.compute.ValueFromTruth.from.Goals as goal
 
 pub returns-in-Holds : goal.returns-in-Holds
 unfolding from_truth
