@@ -4,7 +4,8 @@ use borrow.Author.Tests.{eqb-false}
 use Rattle.std.proofs.lemmas.Bool.{le-leb, leb-true}
 use Rattle.device.specs.Device.{Device, shown, AfterCut, With}
 use Rattle.device.proofs.Sectors.{Quiet}
-use Rattle.shadow.specs.Layout.{other, area_at, slot_at, area_in, entry_in, page_in, gather, blank, updated, Free}
+use Rattle.octets.specs.Parts.{blank}
+use Rattle.shadow.specs.Layout.{other, area_at, slot_at, area_in, entry_in, page_in, gather, updated, Free}
 use Rattle.shadow.proofs.Pages.{Laid}
 use Rattle.shadow.proofs.Shadow.{Body, Low, low-cut, Above, Behind, Filled}
 use Rattle.shadow.proofs.Count.{no_room, moved, moved-of, true-and, false-and}

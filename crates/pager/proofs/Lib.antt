@@ -1,4 +1,3 @@
-pub mod Bytes
 pub mod Turns
 pub mod Invariant
 pub mod Works

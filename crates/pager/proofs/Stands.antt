@@ -1,6 +1,5 @@
 -- The pager keeps to its model, stays within the device and ends.
-use Rattle.std.proofs.Common.{◌≡◌, ℕ, zero, suc, ◌+◌, ◌-◌, ◌*◌, ◌%◌, ◌<◌, ◌≤◌, Bool, false, cond, eqb, leb, ◌⊎◌, List, [], ◌∷◌, get_or, take, drop, sym, refl, ap, ◌∙◌, subst, inl, inr, arith, get_or-drop}
-use Rattle.std.specs.Int.Digits.{number_from_digits_after}
+use Rattle.std.proofs.Common.{◌≡◌, ℕ, ◌+◌, ◌-◌, ◌*◌, ◌%◌, ◌<◌, ◌≤◌, Bool, false, cond, eqb, leb, ◌⊎◌, Option, Some, None, List, [], drop, sym, refl, ap, ◌∙◌, subst, inl, inr, arith, get_or-drop}
 use Rattle.std.proofs.lemmas.Bool.{le-leb}
 use Rattle.device.specs.Device.{Device, blank_device, zeros, AfterCut, With, and, Sector, Sized}
 use Rattle.device.specs.Runs.{Asks, Fair}
@@ -10,10 +9,12 @@ use Rattle.device.proofs.Sectors.{cut-one, begun-none}
 use Rattle.device.proofs.Standing.{Standing, Then, keeps}
 use Rattle.device.proofs.Ending.{Steady, within_by, ends_by}
 use Rattle.device.proofs.Ending as ending
-use Rattle.shadow.specs.Layout.{pages, map_sectors, slots, other, area_at, area_in, raw_in, entry_in, part}
+use Rattle.octets.specs.Parts.{part}
+use Rattle.octets.proofs.Numbers.{number-zeros, take-zeros}
+use Rattle.shadow.specs.Layout.{pages, map_sectors, slots, other, area_at, area_in, raw_in, entry_in}
 use Rattle.shadow.proofs.Pages.{zeros-at}
 use Rattle.shadow.proofs.Shadow.{area-low, body-cut}
-use Rattle.pager.specs.Steps.{Asking, bs, ws, held, CallAt, PhaseAt, Stepped, Taken}
+use Rattle.pager.specs.Steps.{Asking, bs, ws, held, PutEnds, GiveEnds, CallAt, PhaseAt, Stepped, Taken}
 use Rattle.pager.specs.Model.{Held, undone, committed, Replies, commits, start_held, pager_judge, pager_engine, PagerWhole}
 use Rattle.pager.specs.declared.state.Call.{Call}
 use Rattle.pager.specs.declared.state.Call.TheVariants.{Get, Put, Give, Vacant, Commit, Undo}
@@ -27,17 +28,6 @@ use Rattle.pager.proofs.Works.{Works, work}
 use Rattle.pager.proofs.Rises.{Climbs, climb}
 
 -- a blank map sector has blank entries
-number-zeros : (n : ℕ) (l : List ℕ) → ((i : ℕ) → get_or l i 0 ≡ 0) → n ≡ 0 → number_from_digits_after 256 n l ≡ 0
-number-zeros n [] h e = e
-number-zeros n (x ∷ l) h e = let z : x ≡ 0 = h 0 in number-zeros (n * 256 + x) l (λ i. h (suc i)) (omega arith)
-
-take-zeros : (n : ℕ) (l : List ℕ) → ((i : ℕ) → get_or l i 0 ≡ 0) → (i : ℕ) → get_or (take n l) i 0 ≡ 0
-take-zeros zero [] h i = refl
-take-zeros zero (x ∷ l) h i = refl
-take-zeros (suc n) [] h i = refl
-take-zeros (suc n) (x ∷ l) h zero = h 0
-take-zeros (suc n) (x ∷ l) h (suc i) = take-zeros n l (λ j. h (suc j)) i
-
 zero-entry : (S k : ℕ) → entry_in S (zeros 512) k ≡ 0
 zero-entry S k =
     let e : raw_in (zeros 512) k ≡ 0 = number-zeros 0 (part (zeros 512) (8 * k) 8) (take-zeros 8 (drop (8 * k) (zeros 512)) (λ i. get_or-drop (8 * k) (zeros 512) i 0 ∙ zeros-at 512 (8 * k + i))) refl in
@@ -146,15 +136,23 @@ module _ (N M S : ℕ) (few : N ≤ 64 * M) where
     area-inside : (a : Bool) (i : ℕ) → i < M → area_at M a i < size
     area-inside a i h = let (x, y) = area-low M a i h in omega arith
 
+    fair-put : (slot : Option ℕ) (n : Pager) (r : Asking) → PutEnds slot r n.phase → Fair size n.sector r
+    fair-put None n r x = rw x.0 tt
+    fair-put (Some slot) n r x = rw x.0 tt
+
+    fair-give : (slot : Option ℕ) (n : Pager) (r : Asking) → GiveEnds slot r → Fair size n.sector r
+    fair-give None n r x = rw x tt
+    fair-give (Some slot) n r x = rw x tt
+
     fair-call : (c : Call) (m n : Pager) (r : Asking) → CallAt N M S c m r n → Fair size n.sector r
     fair-call (Get p) m n r (inl x) = rw x.1.ask tt
     fair-call (Get p) m n r (inr (inl x)) = rw x.goes.ask tt
     fair-call (Get p) m n r (inr (inr x)) = rw x.goes.ask (omega (arith, x.one, x.fits))
     fair-call (Put p) m n r (inl x) = rw x.1.ask tt
     fair-call (Put p) m n r (inr (inl x)) = rw x.ask tt
-    fair-call (Put p) m n r (inr (inr x)) = elim x.ends [ inl y ↦ rw y.1 tt | inr y ↦ rw y.1 tt ]
+    fair-call (Put p) m n r (inr (inr x)) = fair-put x.slot n r x.ends
     fair-call (Give p) m n r (inl x) = rw x.1.ask tt
-    fair-call (Give p) m n r (inr x) = elim x.ends [ inl y ↦ rw y.1 tt | inr y ↦ rw y.1 tt ]
+    fair-call (Give p) m n r (inr x) = fair-give x.slot n r x.ends
     fair-call (Vacant p) m n r (inl x) = rw x.goes.ask tt
     fair-call (Vacant p) m n r (inr x) = rw x.goes.ask tt
     fair-call Commit m n r x = rw x.ask tt
@@ -211,6 +209,15 @@ module _ (N M S : ℕ) (few : N ≤ 64 * M) where
     gave : (y : Reply) (a b : ℕ) → r ≡ Answer y → a < b
     gave y a b e = absurd (subst (λ t. Asks {V = Never} t) e k)
 
+    falls-put : (p : ℕ) (slot : Option ℕ) → PutEnds slot r n.phase → soon n.phase < soon (Asked (Put p))
+    unfolding soon
+    falls-put p None x = gave NoRoom _ _ x.0
+    falls-put p (Some slot) x = to (Putting slot 0) (Asked (Put p)) x.1 (omega arith)
+
+    falls-give : (p : ℕ) (slot : Option ℕ) → GiveEnds slot r → soon n.phase < soon (Asked (Give p))
+    falls-give p None x = gave NoRoom _ _ x
+    falls-give p (Some slot) x = gave Done _ _ x
+
     falls-call : (c : Call) → CallAt N M S c m r n → soon n.phase < soon (Asked c)
     unfolding soon
     falls-call (Get p) (inl x) = gave Outside _ _ x.1.ask
@@ -218,9 +225,9 @@ module _ (N M S : ℕ) (few : N ≤ 64 * M) where
     falls-call (Get p) (inr (inr x)) = to (Getting (ws m p) 0) (Asked (Get p)) x.goes.phase (omega arith)
     falls-call (Put p) (inl x) = gave Outside _ _ x.1.ask
     falls-call (Put p) (inr (inl x)) = gave Done _ _ x.ask
-    falls-call (Put p) (inr (inr x)) = elim x.ends [ inl y ↦ to (Putting x.slot 0) (Asked (Put p)) y.2 (omega arith) | inr y ↦ gave NoRoom _ _ y.1 ]
+    falls-call (Put p) (inr (inr x)) = falls-put p x.slot x.ends
     falls-call (Give p) (inl x) = gave Outside _ _ x.1.ask
-    falls-call (Give p) (inr x) = elim x.ends [ inl y ↦ gave Done _ _ y.1 | inr y ↦ gave NoRoom _ _ y.1 ]
+    falls-call (Give p) (inr x) = falls-give p x.slot x.ends
     falls-call (Vacant p) (inl x) = gave (At x.page) _ _ x.goes.ask
     falls-call (Vacant p) (inr x) = gave Nowhere _ _ x.goes.ask
     falls-call Commit x = to (Filling 0) (Asked Commit) x.phase (omega arith)

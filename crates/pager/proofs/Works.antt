@@ -1,12 +1,13 @@
 -- The pager at work: what a step at a call does to the invariant.
-use Rattle.std.proofs.Common.{◌≡◌, ℕ, ◌+◌, ◌*◌, ◌/◌, ◌<◌, ◌≤◌, Bool, true, false, cond, eqb, leb, ◌⊎◌, List, ◌∷◌, ◌++◌, length, get_or, take, vec_items, sym, refl, ap, ◌∙◌, subst, inl, inr, arith, get_or-set_other, get_or-set_same}
+use Rattle.std.proofs.Common.{◌≡◌, ℕ, ◌+◌, ◌*◌, ◌/◌, ◌<◌, ◌≤◌, Bool, true, false, cond, eqb, leb, ◌⊎◌, Option, Some, None, List, ◌∷◌, ◌++◌, length, get_or, take, vec_items, sym, refl, ap, ◌∙◌, subst, inl, inr, arith, get_or-set_other, get_or-set_same}
 use Rattle.std.proofs.lemmas.List.{take_all}
-use Rattle.std.proofs.lemmas.Bool.{le-leb}
+use Rattle.std.proofs.lemmas.Bool.{le-leb, or_parts}
 use Rattle.device.specs.Device.{Device, latest, shown, written, synced, With, and}
-use Rattle.device.specs.declared.Ask.TheVariants.{Write, Sync, Again, Answer}
+use Rattle.device.specs.declared.Ask.TheVariants.{Write, Sync, Answer}
 use Rattle.device.proofs.Sectors.{since-same}
 use Rattle.device.proofs.Standing.{Then}
-use Rattle.shadow.specs.Layout.{other, area_at, slot_at, area_in, page_in, gather, put, blank, updated, Free}
+use Rattle.octets.specs.Parts.{put, blank}
+use Rattle.shadow.specs.Layout.{other, area_at, slot_at, area_in, page_in, gather, updated}
 use Rattle.shadow.proofs.Pages.{page-slot, page-write, Laid, laid_none, laid_more, got-more, gather_none}
 use Rattle.shadow.proofs.Shadow.{
   area-low,
@@ -36,7 +37,7 @@ use Rattle.shadow.proofs.Shadow.{
   free-base,
   free-now,
 }
-use Rattle.pager.specs.Steps.{Asking, bs, ws, os, ys, hs, held, Same, Goes, GetAt, GettingAt, Owned, Entered, Given, SlotFor, Clears, PutsIn, PutAt, Gives, GiveAt, Lays, PuttingAt, FoundAt, NotFound, UndoAt, FillAt, SealAt, CallAt, PhaseAt}
+use Rattle.pager.specs.Steps.{Asking, bs, ws, os, ys, hs, held, Same, Goes, GetAt, GettingAt, Owned, Entered, Given, SlotFor, Clears, PutEnds, PutsIn, PutAt, GiveEnds, Gives, GiveAt, Lays, PuttingAt, FoundAt, NotFound, UndoAt, FillAt, SealAt, CallAt, PhaseAt}
 use Rattle.pager.specs.Model.{Held, undone, committed, changed, cleared, Replies, gets, gets_none, puts, clears, puts_none, puts_short, full, lends, lends_none, lends_full, finds, finds_none, commits, undoes}
 use Rattle.pager.specs.declared.state.Call.{Call}
 use Rattle.pager.specs.declared.state.Call.TheVariants.{Get, Put, Give, Vacant, Commit, Undo}
@@ -45,7 +46,7 @@ use Rattle.pager.specs.declared.state.Reply.TheVariants.{Page, Done, NoRoom, At,
 use Rattle.pager.specs.declared.state.Phase.{Phase}
 use Rattle.pager.specs.declared.state.Phase.TheVariants.{Opening, Header, Fetch, Loading, Check, Comparing, Idle, Asked, Short, Getting, Putting, Filling, Settled, Marked, Sealed}
 use Rattle.pager.specs.declared.state.Pager.{Pager}
-use Rattle.pager.proofs.Bytes.{take_put}
+use Rattle.octets.proofs.Parts.{take_put}
 use Rattle.pager.proofs.Invariant.{
   Of,
   view-moved,
@@ -181,16 +182,9 @@ module _ (N M S : ℕ) (few : N ≤ 64 * M) where
         (λ q l _. free-now N M S few (bs m) (ws m) (os m) (ys m) s.now d slot x.one h.above x.free q l)
         (entered_here p slot i t) (entered-rest p slot i t) owned others (entered-flag p slot i t))
 
-    slotted : (p slot : ℕ) → p < N → 1 ≤ slot → Of (Stand N M S few s d) m → SlotFor N S p m slot n → Of (Slotted p slot s d) n
-    slotted p slot i one h (inl x) = slot-owned p slot i h x
-    slotted p slot i one h (inr (inl x)) = slot-given p slot i h x
-    slotted p slot i one h (inr (inr x)) = absurd (omega (arith, x.is))
-
-    -- nothing was given
-    refused : (p slot : ℕ) → slot ≡ 0 → SlotFor N S p m slot n → (Same m n × (1 ≤ ws m p → ws m p ≡ bs m p) × ((t : ℕ) → 1 ≤ t → t ≤ S → Free N (bs m) (ws m) (os m) t → ⊥))
-    refused p slot z (inl y) = absurd (let u = y.one in omega (arith, y.is))
-    refused p slot z (inr (inl y)) = absurd (omega (arith, y.one))
-    refused p slot z (inr (inr y)) = (y.same, y.own, y.none)
+    slotted : (p slot : ℕ) → p < N → Of (Stand N M S few s d) m → SlotFor N S p m (Some slot) n → Of (Slotted p slot s d) n
+    slotted p slot i h (inl x) = slot-owned p slot i h x
+    slotted p slot i h (inr x) = slot-given p slot i h x
 
     at-clears : (r : Asking) (p : ℕ) → Put p ≡ c.it → Told N M S few (Put p) c.bytes (held m) → Of (Stand N M S few s d) m → Clears N p m r n → Works r
     at-clears r p e told h x =
@@ -206,15 +200,14 @@ module _ (N M S : ℕ) (few : N ≤ 64 * M) where
           });
         })
 
-    at-puts-in : (r : Asking) (p : ℕ) → Put p ≡ c.it → Told N M S few (Put p) c.bytes (held m) → Of (Stand N M S few s d) m → (x : PutsIn N S p m r n) →
-        ((1 ≤ x.slot) × (r ≡ Again) × (n.phase ≡ Putting x.slot 0)) ⊎ ((x.slot ≡ 0) × (r ≡ Answer NoRoom) × (n.phase ≡ Idle)) → Works r
+    at-puts-in : (r : Asking) (p : ℕ) → Put p ≡ c.it → Told N M S few (Put p) c.bytes (held m) → Of (Stand N M S few s d) m → (x : PutsIn N S p m r n) → (slot : Option ℕ) → SlotFor N S p m slot n → PutEnds slot r n.phase → Works r
     unfolding Works
-    at-puts-in r p e told h x (inl y) =
-        let u : Of (Slotted p x.slot s d) n = slotted p x.slot x.inside y.0 h x.took in
+    at-puts-in r p e told h x (Some slot) took y =
+        let u : Of (Slotted p slot s d) n = slotted p slot x.inside h took in
         let pg : held n ≡ held m = ap vec_items x.page in
-        rw y.1 (λ j. record {
+        rw y.0 (λ j. record {
           fixed = fixed;
-          at = subst (λ q. Of (BusyAt N M S few q c s (held n) j d) n) (sym y.2) (record {
+          at = subst (λ q. Of (BusyAt N M S few q c s (held n) j d) n) (sym y.1) (record {
             page = p;
             put = sym e;
             inside = x.inside;
@@ -226,34 +219,31 @@ module _ (N M S : ℕ) (few : N ≤ 64 * M) where
             upto = omega arith;
             slot = u.here;
             free = u.free;
-            laid = laid_none (slot_at M x.slot) (held n) d;
+            laid = laid_none (slot_at M slot) (held n) d;
             low = u.low;
             above = u.above;
             behind = u.behind;
             lived = u.lived c.bytes;
           });
         })
-    at-puts-in r p e told h x (inr y) =
-        let (same, own, none) = refused p x.slot y.0 x.took in
-        answers (Put p) r NoRoom s e y.1 (full p c.bytes (held n) s (ap blank (sym told.1) ∙ x.full) (crowded N M S few s (bs m) (ws m) (os m) p x.inside own none h.lived)) (ready-same s same h)
+    at-puts-in r p e told h x None took y =
+        answers (Put p) r NoRoom s e y.0 (full p c.bytes (held n) s (ap blank (sym told.1) ∙ x.full) (crowded N M S few s (bs m) (ws m) (os m) p x.inside took.own took.none h.lived)) (ready-same s took.same h)
 
     at-put : (r : Asking) (p : ℕ) → Put p ≡ c.it → Told N M S few (Put p) c.bytes (held m) → Of (Stand N M S few s d) m → PutAt N S p m r n → Works r
     at-put r p e told h (inl x) = answers (Put p) r Outside s e x.1.ask (puts_none p c.bytes (held n) s x.0) (ready-same s x.1.same h)
     at-put r p e told h (inr (inl x)) = at-clears r p e told h x
-    at-put r p e told h (inr (inr x)) = at-puts-in r p e told h x x.ends
+    at-put r p e told h (inr (inr x)) = at-puts-in r p e told h x x.slot x.took x.ends
 
-    at_gives : (r : Asking) (p : ℕ) → Give p ≡ c.it → Of (Stand N M S few s d) m → (x : Gives N S p m r n) → ((1 ≤ x.slot) × (r ≡ Answer Done)) ⊎ ((x.slot ≡ 0) × (r ≡ Answer NoRoom)) → Works r
-    at_gives r p e h x (inl y) =
-        let u : Of (Slotted p x.slot s d) n = slotted p x.slot x.inside y.0 h x.took in
-        let v = page_in M (shown d) x.slot in
-        answers (Give p) r Done (changed p v s) e y.1 (lends p c.bytes v (held n) s x.inside) (record { fixed = fixed; stand = record { low = u.low; above = u.above; behind = u.behind; lived = u.lived v } })
-    at_gives r p e h x (inr y) =
-        let (same, own, none) = refused p x.slot y.0 x.took in
-        answers (Give p) r NoRoom s e y.1 (lends_full p c.bytes (held n) s (crowded N M S few s (bs m) (ws m) (os m) p x.inside own none h.lived)) (ready-same s same h)
+    at_gives : (r : Asking) (p : ℕ) → Give p ≡ c.it → Of (Stand N M S few s d) m → (x : Gives N S p m r n) → (slot : Option ℕ) → SlotFor N S p m slot n → GiveEnds slot r → Works r
+    at_gives r p e h x (Some slot) took y =
+        let u : Of (Slotted p slot s d) n = slotted p slot x.inside h took in
+        let v = page_in M (shown d) slot in
+        answers (Give p) r Done (changed p v s) e y (lends p c.bytes v (held n) s x.inside) (record { fixed = fixed; stand = record { low = u.low; above = u.above; behind = u.behind; lived = u.lived v } })
+    at_gives r p e h x None took y = answers (Give p) r NoRoom s e y (lends_full p c.bytes (held n) s (crowded N M S few s (bs m) (ws m) (os m) p x.inside took.own took.none h.lived)) (ready-same s took.same h)
 
     at_give : (r : Asking) (p : ℕ) → Give p ≡ c.it → Of (Stand N M S few s d) m → GiveAt N S p m r n → Works r
     at_give r p e h (inl x) = answers (Give p) r Outside s e x.1.ask (lends_none p c.bytes (held n) s x.0) (ready-same s x.1.same h)
-    at_give r p e h (inr x) = at_gives r p e h x x.ends
+    at_give r p e h (inr x) = at_gives r p e h x x.slot x.took x.ends
 
     at-vacant : (r : Asking) (p : ℕ) → Vacant p ≡ c.it → Of (Stand N M S few s d) m → FoundAt N p m r n ⊎ NotFound N p m r n → Works r
     at-vacant r p e h (inl x) =
@@ -386,7 +376,7 @@ module _ (N M S : ℕ) (few : N ≤ 64 * M) where
     at-filling : (r : Asking) (i : ℕ) → Of (InFilling N M S few i c s d) m → FillAt M i m r n → Works r
     unfolding Works
     at-filling r i h (inl x) =
-        let f = fill-skip N M S few i M m.second (bs m) (ws m) (os m) (ys m) (hs m) s.now d x.0 h.above h.behind h.filled in
+        let f = fill-skip N M S few i M m.second (bs m) (ws m) (os m) (ys m) (hs m) s.now d (λ k a b. or_parts (ys m k) (hs m k) (x.0 k a b)) h.above h.behind h.filled in
         rw x.1.ask (λ j.
         busy-same Settled j (synced d) x.1.phase x.1.same (record {
           commit = h.commit;
@@ -399,7 +389,7 @@ module _ (N M S : ℕ) (few : N ≤ 64 * M) where
         let a = m.second in
         let k = x.at in
         let (lo, hi) = area-low M (other a) k x.inside in
-        let f : Filled N M S few k a (ws m) d = fill-skip N M S few i k a (bs m) (ws m) (os m) (ys m) (hs m) s.now d x.down h.above h.behind h.filled in
+        let f : Filled N M S few k a (ws m) d = fill-skip N M S few i k a (bs m) (ws m) (os m) (ys m) (hs m) s.now d (λ k a b. or_parts (ys m k) (hs m k) (x.down k a b)) h.above h.behind h.filled in
         let b : Behind N M S few k a (bs m) (hs m) d = λ p l q e. h.behind p l (omega (arith, x.from)) e in
         rw x.goes.ask (λ j.
         busy-same (Filling (k + 1)) j (written (area_at M (other a) k) n.sector d) x.goes.phase x.goes.same (record {

@@ -3,7 +3,8 @@ use Rattle.std.specs.Prelude.{◌≡◌, ℕ, ◌+◌, ◌*◌, ◌<◌, ◌≤�
 use Rattle.device.specs.Device.{With, and, Engine, Judge}
 use Rattle.device.specs.Runs.{Whole}
 use Rattle.device.specs.declared.Never.{Never}
-use Rattle.shadow.specs.Layout.{pages, map_sectors, slots, blank, blank_page, updated, count}
+use Rattle.octets.specs.Parts.{blank}
+use Rattle.shadow.specs.Layout.{pages, map_sectors, slots, blank_page, updated, count}
 use Rattle.pager.specs.Steps.{Opened, Called, Stepped, held}
 use Rattle.pager.specs.declared.state.Call.{Call}
 use Rattle.pager.specs.declared.state.Call.TheVariants.{Get, Put, Give, Vacant, Commit, Undo}

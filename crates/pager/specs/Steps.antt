@@ -1,6 +1,7 @@
 -- What each function of the pager does to it, by phases. N: pages; M: map sectors; S: slots.
-use Rattle.std.specs.Prelude.{◌≡◌, ℕ, ◌+◌, ◌*◌, ◌/◌, ◌%◌, ◌<◌, ◌≤◌, Bool, true, false, cond, ◌⊎◌, List, length, vec_items, ◌≢◌, slice_index, slice_index_or, slice_set}
-use Rattle.shadow.specs.Layout.{pages, map_sectors, slots, other, area_at, slot_at, area_in, part, put, blank, blank_page, raw_in, entry_in, Free}
+use Rattle.std.specs.Prelude.{◌≡◌, ℕ, ◌+◌, ◌*◌, ◌/◌, ◌%◌, ◌<◌, ◌≤◌, Bool, true, false, cond, ◌||◌, ◌⊎◌, Option, Some, None, MatchOption, List, length, vec_items, ◌≢◌, slice_index, slice_index_or, slice_set}
+use Rattle.octets.specs.Parts.{part, put, blank}
+use Rattle.shadow.specs.Layout.{pages, map_sectors, slots, other, area_at, slot_at, area_in, blank_page, raw_in, entry_in, Free}
 use Rattle.device.specs.Device.{With, Sector}
 use Rattle.device.specs.declared.Ask.{Ask}
 use Rattle.device.specs.declared.Never.{Never}
@@ -72,6 +73,10 @@ pub record HeaderAt (m : Pager) (g : List ℕ) (r : Asking) (n : Pager) : Type 0
   pub phase : n.phase ≡ Fetch 0
   pub second : n.second ≡ area_in g
 
+-- each slot that one of the first n pages has knows a page that has it
+abbrev pub Owners : List ℕ → List ℕ → ℕ → Type 0
+Owners base owner n = (p : ℕ) → p < n → slice_index base p < length owner → (slice_index owner (slice_index base p) < n) × (slice_index base (slice_index owner (slice_index base p)) ≡ slice_index base p)
+
 -- all map sectors were read: the present map is the committed one, and the slots know their pages
 pub record Linked (N S : ℕ) (m : Pager) (r : Asking) (n : Pager) : Type 0 where
   pub ask : r ≡ Again
@@ -122,10 +127,10 @@ pub record GetsSlot (N M S p : ℕ) (m : Pager) (r : Asking) (n : Pager) : Type 
 abbrev pub GetAt : ℕ → ℕ → ℕ → ℕ → Pager → Asking → Pager → Type 0
 GetAt N M S p m r n = ((N ≤ p) × Goes m r Idle (Answer Outside) n) ⊎ GetsBlank N S p m r n ⊎ GetsSlot N M S p m r n
 
--- the slot of a page, or 0 where it has none
-pub record SlotOf (S p : ℕ) (m : Pager) (r : ℕ) : Type 0 where
-  pub none : r ≡ 0 → ws m p ≤ S → ws m p ≡ 0
-  pub some : 1 ≤ r → (ws m p ≡ r) × (r ≤ S)
+-- the slot of a page, if it has one
+abbrev pub SlotOf : ℕ → ℕ → Pager → Option ℕ → Type 0
+SlotOf S p m None = ws m p ≤ S → ws m p ≡ 0
+SlotOf S p m (Some e) = (ws m p ≡ e) × (1 ≤ e) × (e ≤ S)
 
 -- whether a sector of a slot is meant
 abbrev pub InSlot : ℕ → ℕ → ℕ → Bool → Type 0
@@ -157,6 +162,15 @@ pub record Owned (S p : ℕ) (m : Pager) (slot : ℕ) (n : Pager) : Type 0 where
   pub moved : ws m p ≡ bs m p → ⊥
   pub same : Same m n
 
+-- whether a slot is free, and a free slot if there is one
+abbrev pub IsFree : ℕ → ℕ → Pager → Bool → Type 0
+IsFree N s m true = Free N (bs m) (ws m) (os m) s
+IsFree N s m false = Free N (bs m) (ws m) (os m) s → ⊥
+
+abbrev pub FreeSlot : ℕ → ℕ → Pager → Option ℕ → Type 0
+FreeSlot N S m None = (s : ℕ) → 1 ≤ s → s ≤ S → Free N (bs m) (ws m) (os m) s → ⊥
+FreeSlot N S m (Some s) = (1 ≤ s) × (s ≤ S) × Free N (bs m) (ws m) (os m) s
+
 -- an entry of the present map is another one
 pub record Entered (p e : ℕ) (m n : Pager) : Type 0 where
   pub second : n.second ≡ m.second
@@ -174,14 +188,14 @@ pub record Given (N S p : ℕ) (m : Pager) (slot : ℕ) (n : Pager) : Type 0 whe
   pub owner : vec_items n.owner ≡ slice_set (vec_items m.owner) slot p
 
 -- there is no free slot
-pub record Refused (N S p : ℕ) (m : Pager) (slot : ℕ) (n : Pager) : Type 0 where
-  pub is : slot ≡ 0
+pub record Refused (N S p : ℕ) (m n : Pager) : Type 0 where
   pub own : 1 ≤ ws m p → ws m p ≡ bs m p
-  pub none : (s : ℕ) → 1 ≤ s → s ≤ S → Free N (bs m) (ws m) (os m) s → ⊥
+  pub none : FreeSlot N S m None
   pub same : Same m n
 
-abbrev pub SlotFor : ℕ → ℕ → ℕ → Pager → ℕ → Pager → Type 0
-SlotFor N S p m slot n = Owned S p m slot n ⊎ Given N S p m slot n ⊎ Refused N S p m slot n
+abbrev pub SlotFor : ℕ → ℕ → ℕ → Pager → Option ℕ → Pager → Type 0
+SlotFor N S p m None n = Refused N S p m n
+SlotFor N S p m (Some slot) n = Owned S p m slot n ⊎ Given N S p m slot n
 
 -- whether a page has a slot that the committed state does not have for it
 abbrev pub Owns : ℕ → Pager → Bool → Type 0
@@ -198,24 +212,32 @@ pub record Clears (N p : ℕ) (m : Pager) (r : Asking) (n : Pager) : Type 0 wher
   pub owner : n.owner ≡ m.owner
 
 -- a page is put into a slot, if there is one
+abbrev pub PutEnds : Option ℕ → Asking → Phase → Type 0
+PutEnds None r e = (r ≡ Answer NoRoom) × (e ≡ Idle)
+PutEnds (Some slot) r e = (r ≡ Again) × (e ≡ Putting slot 0)
+
 pub record PutsIn (N S p : ℕ) (m : Pager) (r : Asking) (n : Pager) : Type 0 where
   pub inside : p < N
   pub full : blank (held m) ≡ false
-  pub slot : ℕ
+  pub slot : Option ℕ
   pub took : SlotFor N S p m slot n
   pub page : n.page ≡ m.page
-  pub ends : ((1 ≤ slot) × (r ≡ Again) × (n.phase ≡ Putting slot 0)) ⊎ ((slot ≡ 0) × (r ≡ Answer NoRoom) × (n.phase ≡ Idle))
+  pub ends : PutEnds slot r n.phase
 
 abbrev pub PutAt : ℕ → ℕ → ℕ → Pager → Asking → Pager → Type 0
 PutAt N S p m r n = ((N ≤ p) × Goes m r Idle (Answer Outside) n) ⊎ Clears N p m r n ⊎ PutsIn N S p m r n
 
 -- a slot for a page, and nothing is written
+abbrev pub GiveEnds : Option ℕ → Asking → Type 0
+GiveEnds None r = r ≡ Answer NoRoom
+GiveEnds (Some slot) r = r ≡ Answer Done
+
 pub record Gives (N S p : ℕ) (m : Pager) (r : Asking) (n : Pager) : Type 0 where
   pub inside : p < N
-  pub slot : ℕ
+  pub slot : Option ℕ
   pub took : SlotFor N S p m slot n
   pub phase : n.phase ≡ Idle
-  pub ends : ((1 ≤ slot) × (r ≡ Answer Done)) ⊎ ((slot ≡ 0) × (r ≡ Answer NoRoom))
+  pub ends : GiveEnds slot r
 
 abbrev pub GiveAt : ℕ → ℕ → ℕ → Pager → Asking → Pager → Type 0
 GiveAt N S p m r n = ((N ≤ p) × Goes m r Idle (Answer Outside) n) ⊎ Gives N S p m r n
@@ -254,17 +276,24 @@ pub record UndoAt (M : ℕ) (m : Pager) (r : Asking) (n : Pager) : Type 0 where
   pub owner : n.owner ≡ m.owner
   pub behind : n.behind ≡ m.behind
 
+-- whether a map sector was changed or is behind, and the first from i on that was or is, if there is one
+abbrev pub lacking : Pager → ℕ → Bool
+lacking m k = ys m k || hs m k
+
+abbrev pub NextLacking : ℕ → ℕ → Pager → Option ℕ → Type 0
+NextLacking M i m r = MatchOption r ((k : ℕ) → i ≤ k → k < M → lacking m k ≡ false) (λ at. (i ≤ at) × (at < M) × (lacking m at ≡ true) × ((k : ℕ) → i ≤ k → k < at → lacking m k ≡ false))
+
 -- the next map sector that was changed or is behind goes into the other area
 pub record Fills (M i : ℕ) (m : Pager) (r : Asking) (n : Pager) : Type 0 where
   pub at : ℕ
   pub inside : at < M
   pub from : i ≤ at
-  pub down : (k : ℕ) → i ≤ k → k < at → (ys m k ≡ false) × (hs m k ≡ false)
+  pub down : (k : ℕ) → i ≤ k → k < at → lacking m k ≡ false
   pub goes : Goes m r (Filling (at + 1)) (Write (area_at M (other m.second) at)) n
   pub raw : (p : ℕ) → p / 64 ≡ at → raw_in n.sector (p % 64) ≡ ws m p
 
 abbrev pub FillAt : ℕ → ℕ → Pager → Asking → Pager → Type 0
-FillAt M i m r n = (((k : ℕ) → i ≤ k → k < M → (ys m k ≡ false) × (hs m k ≡ false)) × Goes m r Settled Sync n) ⊎ Fills M i m r n
+FillAt M i m r n = (NextLacking M i m None × Goes m r Settled Sync n) ⊎ Fills M i m r n
 
 -- what was written is the committed state now
 pub record SealAt (M : ℕ) (m : Pager) (r : Asking) (n : Pager) : Type 0 where

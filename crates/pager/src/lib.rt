@@ -6,10 +6,10 @@
 // whole or not at all, so after a cut the header names the old area or the new one, and all that either leads to is there.
 // Nothing is counted up, so no number can come round.
 //
-// It holds no pages in memory but the one under way, and stands on `device` and `shadow`; a cache of pages is a layer above it.
+// It holds no pages in memory but the one under way, and stands on `device`, `octets` and `shadow`; a cache of pages is a layer above it.
 #![tactic(auto)]
 
-pub mod leaves;
+mod leaves;
 pub mod state;
 
 pub use state::{Call, Pager, Reply};

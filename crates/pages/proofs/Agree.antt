@@ -2,7 +2,8 @@
 use Rattle.std.proofs.Common.{◌≡◌, ℕ, zero, suc, ◌+◌, ◌<◌, ◌≤◌, Bool, true, false, cond, not, ◌&&◌, eqb, List, [], ◌∷◌, length, sym, refl, ap, ◌∙◌, subst, arith, eq-eqb, ne_eqb, eqb-true}
 use borrow.Author.Tests.{eqb-false}
 use Rattle.device.specs.Device.{zeros}
-use Rattle.shadow.specs.Layout.{blank, blank_page, updated, count}
+use Rattle.octets.specs.Parts.{blank}
+use Rattle.shadow.specs.Layout.{blank_page, updated, count}
 use Rattle.shadow.proofs.Count.{count-lt, count-le, and-true}
 use Rattle.pager.specs.Model.{Held, undone, committed, changed, cleared, Crowded}
 use Rattle.pages.specs.Layer.{frame_of}

@@ -3,7 +3,7 @@ use Rattle.std.proofs.Common.{◌≡◌, ℕ, ◌+◌, ◌-◌, ◌<◌, ◌≤�
 use Rattle.device.specs.Device.{With, and}
 use Rattle.device.specs.Layers.{Place, down, below, raised, lifting, rests, begun, midst}
 use Rattle.device.specs.declared.Never.{Never}
-use Rattle.shadow.specs.Layout.{blank}
+use Rattle.octets.specs.Parts.{blank}
 use Rattle.pager.specs.Model.{Held, undone, committed, changed, cleared, Crowded}
 use Rattle.pager.specs.Model as low
 use Rattle.pager.specs.declared.state.Call.{Call}

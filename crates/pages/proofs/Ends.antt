@@ -1,6 +1,6 @@
 -- Every call of the frames ends, whatever the pager answers; and the frames on the pager as a whole.
 use Rattle.std.proofs.Common.{◌≡◌, ℕ, ◌+◌, ◌-◌, ◌<◌, ◌≤◌, Bool, true, false, List, sym, subst, inl, inr, arith}
-use Rattle.shadow.specs.Layout.{blank}
+use Rattle.octets.specs.Parts.{blank}
 use Rattle.device.specs.Layers.{Whose, its, belows, none, after, EndsAbove, BothOpen, both_open}
 use Rattle.device.specs.declared.Over.{Over}
 use Rattle.device.specs.declared.Never.{Never}

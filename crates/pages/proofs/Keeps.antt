@@ -7,7 +7,8 @@ use Rattle.device.specs.declared.Never.{Never}
 use Rattle.device.specs.declared.Next.TheVariants as next
 use Rattle.device.proofs.Sectors.{begun-none}
 use Rattle.device.proofs.StandingAbove.{Led, StandingAbove}
-use Rattle.shadow.specs.Layout.{pages, slots, blank, blank_page, updated}
+use Rattle.octets.specs.Parts.{blank}
+use Rattle.shadow.specs.Layout.{pages, slots, blank_page, updated}
 use Rattle.pager.specs.Model.{Held, undone, committed, changed, cleared, Crowded, pager_judge}
 use Rattle.pager.specs.Model as low
 use Rattle.pager.specs.declared.state.Call.{Call}

@@ -1,4 +1,3 @@
-pub mod Lists
 pub mod Agree
 pub mod Between
 pub mod Cuts

@@ -1,6 +1,6 @@
 -- What the frames do, by what is under way.
-use Rattle.std.specs.Prelude.{◌≡◌, ℕ, ◌+◌, ◌-◌, ◌%◌, ◌<◌, ◌≤◌, Bool, true, false, ◌⊎◌, List, [], length, vec_items, ◌≢◌, slice_index, slice_index_or, slice_set}
-use Rattle.shadow.specs.Layout.{blank}
+use Rattle.std.specs.Prelude.{◌≡◌, ℕ, ◌+◌, ◌-◌, ◌%◌, ◌<◌, ◌≤◌, Bool, true, false, ◌⊎◌, Option, MatchOption, List, [], length, vec_items, ◌≢◌, slice_index, slice_index_or, slice_set}
+use Rattle.octets.specs.Parts.{blank}
 use Rattle.device.specs.Device.{With}
 use Rattle.device.specs.Layers.{Layer}
 use Rattle.device.specs.declared.Never.{Never}
@@ -123,6 +123,10 @@ pub record PutStarts (p : ℕ) (m : Frames) (x : Turn) (n : Frames) : Type 0 whe
   pub hit : Bool
   pub hits : Hit p m hit
   pub by : PutBy (blank (given m)) hit (st m (frame_of p)) p m x n
+
+-- the first stale frame from i on, if there is one
+abbrev pub NextStale : ℕ → Frames → Option ℕ → Type 0
+NextStale i m r = MatchOption r ((k : ℕ) → i ≤ k → k < 128 → st m k ≡ false) (λ f. (i ≤ f) × (f < 128) × (st m f ≡ true) × ((k : ℕ) → i ≤ k → k < f → st m k ≡ false))
 
 -- the next stale frame from i on is written back, or there is none and the pager commits
 pub record Flushes (i : ℕ) (x : Turn) (n : Frames) : Type 0 where

@@ -5,7 +5,8 @@ use Rattle.device.specs.Layers.{over}
 use Rattle.device.specs.Runs.{Whole}
 use Rattle.device.specs.declared.Never.{Never}
 use Rattle.device.specs.declared.Over.{Over}
-use Rattle.shadow.specs.Layout.{pages, slots, blank, blank_page, updated, count}
+use Rattle.octets.specs.Parts.{blank}
+use Rattle.shadow.specs.Layout.{pages, slots, blank_page, updated, count}
 use Rattle.pager.specs.Model.{pager_engine}
 use Rattle.pager.specs.Model as below
 use Rattle.pager.specs.declared.state.Pager.{Pager}

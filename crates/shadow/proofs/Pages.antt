@@ -2,7 +2,8 @@
 use Rattle.std.proofs.Common.{◌≡◌, ℕ, zero, suc, ◌+◌, ◌*◌, ◌<◌, ◌≤◌, true, List, [], ◌∷◌, ◌++◌, get_or, take, drop, replicate, sym, refl, ap, ◌∙◌, arith, take-add, ne_eqb}
 use Rattle.device.specs.Device.{Device, zeros, latest, shown, written}
 use Rattle.device.proofs.Sectors.{shown-written, since-other}
-use Rattle.shadow.specs.Layout.{slot_at, blank, gather, page_in}
+use Rattle.octets.specs.Parts.{blank}
+use Rattle.shadow.specs.Layout.{slot_at, gather, page_in}
 
 pub shown-other : (x y : ℕ) (v : List ℕ) (d : Device) → (y ≡ x → ⊥) → shown (written x v d) y ≡ shown d y
 shown-other x y v d h = ap (latest (d.kept y)) (since-other x y v d (ne_eqb y x h))

@@ -1,8 +1,9 @@
 -- Where things stand on the device, and what the bytes mean. N: pages; M: map sectors an area; S: slots, numbered from 1.
 -- Sector 0 is the header, 1 .. M the first area, M + 1 .. 2 M the second; the slot e has the eight sectors from 1 + 2 M + 8 (e - 1) on.
-use Rattle.std.specs.Prelude.{ℕ, zero, suc, ◌+◌, ◌-◌, ◌*◌, ◌/◌, ◌≤◌, Bool, true, false, cond, ◌&&◌, ◌⊎◌, List, [], ◌∷◌, ◌++◌, length, take, drop, ◌==◌, ◌≢◌, nat_le, slice_index}
+use Rattle.std.specs.Prelude.{ℕ, zero, suc, ◌+◌, ◌-◌, ◌*◌, ◌/◌, ◌≤◌, Bool, true, false, cond, ◌⊎◌, List, [], ◌++◌, ◌==◌, ◌≢◌, nat_le, slice_index}
 use Rattle.std.specs.Int.Digits.{number_from_digits}
 use Rattle.device.specs.Device.{zeros}
+use Rattle.octets.specs.Parts.{part}
 
 -- a device of so many sectors has so many pages, map sectors in each area, and slots
 abbrev pub pages : ℕ → ℕ
@@ -31,13 +32,6 @@ slot_at M e = 1 + 2 * M + 8 * (e - 1)
 abbrev pub area_in : List ℕ → Bool
 area_in b = slice_index b 0 == 1
 
-abbrev pub part : List ℕ → ℕ → ℕ → List ℕ
-part xs at n = take n (drop at xs)
-
--- xs with the bytes from `at` on replaced by ys
-unfoldable pub put : List ℕ → ℕ → List ℕ → List ℕ
-put xs at ys = take at xs ++ (ys ++ drop (at + length ys) xs)
-
 -- the entry k of a map sector, eight bytes, the highest first; one that is no slot counts as blank
 abbrev pub raw_in : List ℕ → ℕ → ℕ
 raw_in b k = number_from_digits 256 (part b (8 * k) 8)
@@ -48,10 +42,6 @@ entry_in S b k = cond (nat_le (raw_in b k) S) (raw_in b k) 0
 -- a page that holds nothing but zeros takes no slot
 abbrev pub blank_page : List ℕ
 blank_page = zeros 4096
-
-unfoldable pub blank : List ℕ → Bool
-blank [] = true
-blank (x ∷ xs) = x == 0 && blank xs
 
 -- so many sectors, one after the other
 unfoldable pub gather : (ℕ → List ℕ) → ℕ → ℕ → List ℕ

@@ -1,11 +1,12 @@
 // What the pager does.
 ghost use Rattle.std.specs.Prelude.{◌≡◌, ℕ, ◌+◌, ◌*◌, ◌<◌, ◌≤◌, ◌⊎◌, IfOk};
 ghost use Rattle.pager.specs.Model.{Memory, pager_engine, PagerWhole};
-ghost use Rattle.pager.specs.Steps.{Opened, ws, Same, Sizes, FetchAt, LoadAt, Answers, CheckAt, CompareAt, GetAt, SlotOf, InSlot, GettingAt, Owns, Entered, SlotFor, PutAt, GiveAt, PuttingAt, FoundAt, NotFound, UndoAt, FillAt, SealAt, PhaseAt};
+ghost use Rattle.pager.specs.Steps.{Opened, ws, Same, Sizes, FetchAt, LoadAt, Answers, CheckAt, CompareAt, GetAt, SlotOf, InSlot, GettingAt, Owns, IsFree, FreeSlot, Entered, SlotFor, PutAt, GiveAt, PuttingAt, FoundAt, NotFound, UndoAt, lacking, NextLacking, FillAt, SealAt, PhaseAt};
 
 use super::{Call, Pager, Phase, Reply};
 use crate::leaves;
 use device::{Ask, Never, Store, bytes_fit};
+use octets::{is_blank, put_bytes};
 use std::alloc::{AllocError, Global};
 
 // Coming up: the header, the active area, then what the other area has.
@@ -19,8 +20,8 @@ impl Pager {
             self.phase = Phase::Loading(i);
             Ask::Read(leaves::area_at(self.maps, self.second, i))
         } else {
-            leaves::copy(&mut self.present, &self.base);
-            leaves::link(&mut self.owner, &self.base, self.pages);
+            self.present.copy_from_slice(&self.base);
+            leaves::link(&mut self.owner, &self.base[..self.pages]);
             self.phase = Phase::Check(0);
             Ask::Again
         }
@@ -76,22 +77,16 @@ impl Pager {
     fn in_slot(&self, slot: u64, j: usize) -> bool
         ensures { InSlot self.now.slots slot j result }
     {
-        if slot == 0 {
-            return false;
-        }
-        if slot > self.slots as u64 {
-            return false;
-        }
-        j < 8
+        1 <= slot && slot <= self.slots as u64 && j < 8
     }
 
-    // The slot of a page at present, or 0 where it has none.
-    fn slot_of(&self, p: usize) -> u64
+    // The slot of a page at present, if it has one.
+    fn slot_of(&self, p: usize) -> Option<u64>
         requires { p < self.now.pages }
         ensures { SlotOf self.now.slots p self.now result }
     {
-        let e = self.present[p];
-        if e <= self.slots as u64 { e } else { 0 }
+        let slot = self.present[p];
+        (1 <= slot && slot <= self.slots as u64).then_some(slot)
     }
 
     // A page as it is at present.
@@ -103,14 +98,13 @@ impl Pager {
             self.phase = Phase::Idle;
             return Ask::Answer(Reply::Outside);
         }
-        let e = self.slot_of(p);
-        if e == 0 {
+        let Some(slot) = self.slot_of(p) else {
             self.page.fill(0);
             self.phase = Phase::Idle;
             return Ask::Answer(Reply::Page);
-        }
-        self.phase = Phase::Getting(e, 0);
-        Ask::Read(leaves::slot_at(self.maps, e))
+        };
+        self.phase = Phase::Getting(slot, 0);
+        Ask::Read(leaves::slot_at(self.maps, slot))
     }
 
     // A sector of a page has come.
@@ -121,7 +115,7 @@ impl Pager {
         if !self.in_slot(slot, j) {
             return Ask::Answer(Reply::Done);
         }
-        leaves::copy_in(&mut self.page, 512 * j, given);
+        put_bytes(&mut self.page, 512 * j, given);
         if j == 7 {
             self.phase = Phase::Idle;
             return Ask::Answer(Reply::Page);
@@ -138,11 +132,29 @@ impl Pager {
         requires { p < self.now.pages }
         ensures { Owns p self.now result }
     {
-        let e = self.present[p];
-        if e == 0 {
-            return false;
-        }
-        e != self.base[p]
+        let slot = self.present[p];
+        slot != 0 && slot != self.base[p]
+    }
+
+    // Whether neither map leads from the owner of a slot to it.
+    fn is_free(&self, slot: usize) -> bool
+        requires { slot ≤ self.now.slots }
+        ensures { IsFree self.now.pages slot self.now result }
+    {
+        let p = self.owner[slot] as usize;
+        p >= self.pages || (self.base[p] != slot as u64 && self.present[p] != slot as u64)
+    }
+
+    // A free slot, searched for from the one that was given last.
+    fn free_slot(&self) -> Option<usize>
+        ensures { FreeSlot self.now.pages self.now.slots self.now result }
+    {
+        let end = self.owner.len();
+        let from = self.hint.clamp(1, end);
+        let is_free = |slot: &usize| self.is_free(*slot);
+        (from..end)
+            .find(is_free)
+            .or_else(|| (1..from).find(is_free))
     }
 
     // Another slot, or none, for a page.
@@ -157,30 +169,21 @@ impl Pager {
         self.dirty[p / 64] = true;
     }
 
-    // The slot that a page was given since the last commit, or a free one; 0 where there is none.
-    fn slot_for(&mut self, p: usize) -> u64
+    // The slot that a page was given since the last commit, or else a free one.
+    fn slot_for(&mut self, p: usize) -> Option<u64>
         requires { p < self.old.pages }
         ensures at { SlotFor self.old.pages self.old.slots p self.old result self.new }
         ensures page { self.new.page ≡ self.old.page }
         ensures sizes { Sizes self.old self.new }
     {
         if self.owns(p) {
-            return self.present[p];
+            return Some(self.present[p]);
         }
-        let slot = leaves::free_slot(
-            &self.base,
-            &self.present,
-            &self.owner,
-            self.pages,
-            self.hint,
-        );
-        if slot == 0 {
-            return 0;
-        }
+        let slot = self.free_slot()?;
         self.enter(p, slot as u64);
         self.owner[slot] = p as u64;
         self.hint = slot;
-        slot as u64
+        Some(slot as u64)
     }
 
     // A page goes into a slot; a blank one takes none.
@@ -192,17 +195,15 @@ impl Pager {
         if p >= self.pages {
             return Ask::Answer(Reply::Outside);
         }
-        let blank = leaves::is_blank(&self.page);
-        if blank {
+        if is_blank(&self.page) {
             self.enter(p, 0);
             self.phase = Phase::Idle;
             return Ask::Answer(Reply::Done);
         }
-        let slot = self.slot_for(p);
-        if slot == 0 {
+        let Some(slot) = self.slot_for(p) else {
             self.phase = Phase::Idle;
             return Ask::Answer(Reply::NoRoom);
-        }
+        };
         self.phase = Phase::Putting(slot, 0);
         Ask::Again
     }
@@ -218,10 +219,10 @@ impl Pager {
         }
         let slot = self.slot_for(p);
         self.phase = Phase::Idle;
-        if slot == 0 {
-            return Ask::Answer(Reply::NoRoom);
+        match slot {
+            Some(_) => Ask::Answer(Reply::Done),
+            None => Ask::Answer(Reply::NoRoom),
         }
-        Ask::Answer(Reply::Done)
     }
 
     // The next sector of a page.
@@ -246,12 +247,11 @@ impl Pager {
         ensures at { FoundAt self.old.pages p self.old result self.new ⊎ NotFound self.old.pages p self.old result self.new }
         ensures sizes { Sizes self.old self.new }
     {
-        let q = leaves::vacant(&self.present, p, self.pages);
+        let page = (p..self.pages).find(|q| self.present[*q] == 0);
         self.phase = Phase::Idle;
-        if q < self.pages {
-            Ask::Answer(Reply::At(q as u64))
-        } else {
-            Ask::Answer(Reply::Nowhere)
+        match page {
+            Some(page) => Ask::Answer(Reply::At(page as u64)),
+            None => Ask::Answer(Reply::Nowhere),
         }
     }
 }
@@ -268,16 +268,30 @@ impl Pager {
         Ask::Answer(Reply::Done)
     }
 
-    // The next map sector that the other area lacks.
+    // Whether the other area lacks a map sector as it is at present.
+    fn is_lacking(&self, k: usize) -> bool
+        requires { k < self.now.maps }
+        ensures { result ≡ lacking self.now k }
+    {
+        self.dirty[k] || self.behind[k]
+    }
+
+    // The first map sector from i on that the other area lacks.
+    fn next_lacking(&self, i: usize) -> Option<usize>
+        ensures { NextLacking self.now.maps i self.now result }
+    {
+        (i..self.maps).find(|k| self.is_lacking(*k))
+    }
+
+    // The next map sector that the other area lacks is written.
     fn fill(&mut self, i: usize) -> Ask<Never, Reply>
         ensures at { FillAt self.old.maps i self.old result self.new }
         ensures sizes { Sizes self.old self.new }
     {
-        let at = leaves::next_flag(&self.dirty, &self.behind, i);
-        if at >= self.maps {
+        let Some(at) = self.next_lacking(i) else {
             self.phase = Phase::Settled;
             return Ask::Sync;
-        }
+        };
         self.phase = Phase::Filling(at + 1);
         leaves::encode(&mut self.sector, &self.present, at);
         Ask::Write(leaves::area_at(self.maps, !self.second, at))
@@ -290,7 +304,7 @@ impl Pager {
     {
         self.second = !self.second;
         leaves::settle(&mut self.base, &self.present, &self.dirty);
-        leaves::copy(&mut self.behind, &self.dirty);
+        self.behind.copy_from_slice(&self.dirty);
         self.dirty.fill(false);
         self.phase = Phase::Idle;
         Ask::Answer(Reply::Done)
@@ -362,7 +376,7 @@ impl Store for Pager {
         self.phase = Phase::Asked(c);
         if let Call::Put(_) = c {
             if bytes.len() == 4096 {
-                leaves::copy(&mut self.page, bytes);
+                self.page.copy_from_slice(bytes);
             } else {
                 self.phase = Phase::Short;
             }

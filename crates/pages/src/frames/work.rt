@@ -1,12 +1,12 @@
 // What the frames do.
 ghost use Rattle.std.specs.Prelude.{◌≡◌, ℕ, ◌+◌, ◌-◌, ◌*◌, ◌%◌, ◌<◌, ◌≤◌, true, false, [], length, IfOk, slice_index_or};
-ghost use Rattle.shadow.specs.Layout.{blank};
+ghost use Rattle.octets.specs.Parts.{blank};
 ghost use Rattle.pages.specs.Model.{pages_engine, PagesWhole, RoomStands, Memory, Takings};
-ghost use Rattle.pages.specs.Layer.{Wakes, reply_of, frame_of, tg, st, fr, given, Same, Goes, Refills, Vacates, Stores, WritesBack, Hit, GetStarts, PutStarts, FlushOn, UndoStarts, Owns, Cleared, Made, Fetched, Flushed, frames_layer};
+ghost use Rattle.pages.specs.Layer.{Wakes, reply_of, frame_of, tg, st, fr, given, Same, Goes, Refills, Vacates, Stores, WritesBack, Hit, GetStarts, PutStarts, NextStale, FlushOn, UndoStarts, Owns, Cleared, Made, Fetched, Flushed, frames_layer};
 
 use super::{Doing, FRAMES, Frames, PageCall, PageReply};
 use device::{Layer, Never, Next, Over};
-use pager::leaves::{copy, is_blank};
+use octets::is_blank;
 use pager::{Call, Pager, Reply};
 use std::alloc::{AllocError, Global};
 
@@ -38,20 +38,6 @@ fn tag_of(p: u64) -> u64
     if p < u64::MAX { p + 1 } else { 0 }
 }
 
-// The first stale frame from i on, or `stale.len()`.
-fn next_stale(stale: &[bool], i: usize) -> usize
-    ensures below { (k : ℕ) → i ≤ k → k < result → slice_index_or stale.now k false ≡ false }
-    ensures here { result < length stale.now → (i ≤ result) × (slice_index_or stale.now result false ≡ true) }
-{
-    for k in i..stale.len() {
-        let flag = stale[k];
-        if flag {
-            return k;
-        }
-    }
-    stale.len()
-}
-
 impl Frames {
     // Whether a page is in its frame.
     fn hit(&self, p: u64) -> bool
@@ -64,11 +50,19 @@ impl Frames {
         tag - 1 == p
     }
 
-    // Whether the frame of a page is one that the pager lacks.
-    fn is_stale(&self, p: u64) -> bool
-        ensures { result ≡ st self.now (frame_of p) }
+    // The first frame from i on that the pager lacks.
+    fn next_stale(&self, i: usize) -> Option<usize>
+        ensures { NextStale i self.now result }
     {
-        self.stale[frame_of(p)]
+        (i..FRAMES).find(|f| self.is_stale(*f))
+    }
+
+    // Whether a frame is one that the pager lacks.
+    fn is_stale(&self, f: usize) -> bool
+        requires { f < 128 }
+        ensures { result ≡ st self.now f }
+    {
+        self.stale[f]
     }
 }
 
@@ -122,11 +116,10 @@ impl Frames {
         ensures on { FlushOn i result self.new }
         ensures same { Same self.old self.new }
     {
-        let f = next_stale(&self.stale, i);
-        if f >= FRAMES {
+        let Some(f) = self.next_stale(i) else {
             self.doing = Doing::Committing;
             return Next::Call(Call::Commit);
-        }
+        };
         self.at = f;
         self.doing = Doing::Flushing(f);
         Next::Call(Call::Put(self.tags[f].saturating_sub(1)))
@@ -139,7 +132,7 @@ impl Frames {
         ensures { GetStarts p self.old result self.new }
     {
         let hit = self.hit(p);
-        let stale = self.is_stale(p);
+        let stale = self.is_stale(frame_of(p));
         if hit {
             self.at = frame_of(p);
             self.doing = Doing::Resting;
@@ -157,7 +150,7 @@ impl Frames {
     {
         let blank = is_blank(&self.page);
         let hit = self.hit(p);
-        let stale = self.is_stale(p);
+        let stale = self.is_stale(frame_of(p));
         if blank {
             self.doing = Doing::Clearing(p);
             return Next::Call(Call::Put(p));
@@ -188,7 +181,7 @@ impl Frames {
         ensures { Owns p self.old result self.new }
     {
         let hit = self.hit(p);
-        let stale = self.is_stale(p);
+        let stale = self.is_stale(frame_of(p));
         if !hit {
             if stale {
                 return self.write_back(p, Doing::Evicting(p));
@@ -263,7 +256,7 @@ impl Layer for Frames {
         self.doing = Doing::Asked(c);
         if let PageCall::Put(_) = c {
             if bytes.len() == 4096 {
-                copy(&mut self.page, bytes);
+                self.page.copy_from_slice(bytes);
             } else {
                 self.doing = Doing::Short;
             }

@@ -1,18 +1,18 @@
-use Rattle.std.proofs.Common.{ℕ, ◌+◌, ◌*◌, List, length, get_or, refl, ap, ◌∙◌, arith}
+use Rattle.std.proofs.Common.{ℕ, ◌+◌, ◌-◌, ◌*◌, List, length, get_or, take, drop, ap, ◌∙◌, rules}
 use Rattle.shadow.specs.Layout.{raw_in}
-use Rattle.pager.specs.Digits.{be}
-use Rattle.pager.proofs.Bytes.{length-put, length-be}
+use Rattle.octets.specs.Numbers.{be}
+use Rattle.octets.proofs.Parts.{length-put_in}
 use Rattle.pager.proofs.Turns.{raw-more}
 use Rattle.pager.proofs.leaves.encode.Goals as goal
 
 pub loop-k-preserved : goal.loop-k-preserved
 loop-k-preserved c =
+    let at = 64 * c.args.i in
+    let f : ℕ → ℕ = λ j. get_or (take (at + 64 - at) (drop at c.args.present.now)) j 0 in
     let s = c.loop-k.sector in
     let k = c.loop-k.k in
-    let w = c.args.present.now in
-    let at = 64 * c.args.i in
-    let e = get_or w (at + k) 0 in
-    let z = c.put_entry.ensures.0 in (
-      λ j h. ap (λ (t : List ℕ). raw_in t j) z ∙ raw-more s (λ j. get_or w (at + j) 0) k e (omega arith) c.loop-k.invariant.1 c.put_entry.ensures.1 refl c.loop-k.invariant.0 j h,
-      ap length z ∙ length-put s (be 8 e) (8 * k) (let y = length-be 8 e in let n = c.loop-k.invariant.1 in omega arith) ∙ c.loop-k.invariant.1,
-    )
+    let w = c.loop-k.invariant in
+    record {
+      written = λ j h. ap (λ (t : List ℕ). raw_in t j) c.put_u64.ensures ∙ raw-more s f k (search rules) w.long (search rules) w.written j h;
+      long = ap length c.put_u64.ensures ∙ length-put_in s (be 8 (f k)) (8 * k) ∙ w.long;
+    }

@@ -1,7 +1,7 @@
 -- The entries so far stand in the sector.
-use Rattle.std.proofs.Common.{◌≡◌, ℕ, ◌+◌, ◌*◌, ◌<◌, length, get_or}
+use Rattle.std.proofs.Common.{◌≡◌, ℕ, ◌<◌, length, get_or}
 use Rattle.shadow.specs.Layout.{raw_in}
 use Rattle.pager.proofs.leaves.encode.Given as goal
 
 abbrev pub invariant-loop-k : goal.invariant-loop-k
-invariant-loop-k l = ((j : ℕ) → j < l.k → raw_in l.sector j ≡ get_or l.present (64 * l.i + j) 0) × (length l.sector ≡ 512)
+invariant-loop-k l = record { written : (j : ℕ) → j < l.k → raw_in l.sector j ≡ get_or l.entry-items j 0; long : length l.sector ≡ 512 }

@@ -1,5 +1,5 @@
-use Rattle.pager.proofs.Turns.{Linked}
+use Rattle.pager.specs.Steps.{Owners}
 use Rattle.pager.proofs.leaves.link.Given as goal
 
 abbrev pub invariant-loop-p : goal.invariant-loop-p
-invariant-loop-p l = Linked l.base l.owner l.p
+invariant-loop-p l = Owners l.base l.owner l.p

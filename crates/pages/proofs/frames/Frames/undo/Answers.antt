@@ -1,5 +1,5 @@
 use Rattle.std.proofs.Common.{ℕ, Bool, false, List, get_or, vec_len, refl, ap, ◌∙◌}
-use Rattle.pages.proofs.Lists.{replicate-at}
+use Rattle.octets.proofs.Parts.{replicate-at}
 use Rattle.pages.proofs.frames.Frames.undo.Goals as goal
 
 pub returns : goal.returns

@@ -1,6 +1,6 @@
 use Rattle.std.proofs.Common.{ℕ, Bool, false, List, get_or, refl, ap, ◌∙◌, rules}
 use Rattle.std.proofs.lemmas.Result.{IfOk-from_err}
-use Rattle.pages.proofs.Lists.{replicate-at}
+use Rattle.octets.proofs.Parts.{replicate-at}
 use Rattle.pages.proofs.frames.Frames.wake.Goals as goal
 
 pub returns-in_err-stale : goal.returns-in_err-stale

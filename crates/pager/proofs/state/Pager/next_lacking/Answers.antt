@@ -1,0 +1,9 @@
+use Rattle.std.proofs.Common.{◌≡◌, true, false, rules}
+use Rattle.std.proofs.lemmas.Iterator.{first_from_Range}
+use Rattle.pager.specs.Steps.{lacking}
+use Rattle.pager.proofs.state.Pager.next_lacking.Goals as goal
+
+pub returns : goal.returns
+returns c =
+    let m = c.args.self.now in
+    first_from_Range _ _ _ c.find.result (λ k. lacking m k ≡ true) (λ k. lacking m k ≡ false) c.find.ensures.ran (λ x q k. search rules) (λ x q k. search rules)

@@ -1,6 +1,0 @@
-use Rattle.std.proofs.Common.{rules}
-use Rattle.std.proofs.lemmas.List.{with_items_is}
-use Rattle.pager.proofs.state.work.PagerStore.call.Goals as goal
-
-pub returns-then-bytes-eq4096 : goal.returns-then-bytes-eq4096
-returns-then-bytes-eq4096 c = search (rules, with_items_is)
