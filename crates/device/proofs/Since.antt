@@ -1,5 +1,5 @@
 -- One write more.
-use Rattle.std.proofs.Common.{◌≡◌, ℕ, zero, suc, ◌+◌, ◌<◌, ◌≤◌, Bool, true, false, cond, eqb, ◌⊎◌, List, [], ◌∷◌, ◌++◌, length, get_or, take, set, replicate, ◌==◌, reverse, None, Some, Option, sym, refl, ap, ◌∙◌, subst, inl, inr, arith, length-set, get_or-set_other, get_or-set_same, eq-eqb, ne_eqb}
+use Rattle.std.proofs.Common.{◌≡◌, ℕ, zero, suc, ◌+◌, ◌<◌, ◌≤◌, Bool, true, false, cond, eqb, ◌⊎◌, List, [], ◌∷◌, ◌++◌, length, get_or, take, replicate, ◌==◌, reverse, None, Some, Option, sym, refl, ap, ◌∙◌, subst, inl, inr, arith, eq-eqb, ne_eqb}
 use mathlib.Core.List.{Memᴰ}
 use Rattle.std.proofs.lemmas.Bool.{cases_eq, cases_lt}
 use Rattle.std.proofs.lemmas.List.{take_more, get_or_default, reverse-append}
@@ -25,19 +25,6 @@ since-more s ws i w h e = ap (since_of s) (take_more ws i w h ∙ ap (λ y. take
 pub latest-cond : (b : Bool) (old x : List ℕ) (a : List (List ℕ)) → latest old (cond b (x ∷ a) a) ≡ cond b x (latest old a)
 latest-cond true old x a = refl
 latest-cond false old x a = refl
-
-set_at : (xs : List (List ℕ)) (i s : ℕ) (v : List ℕ) → i < length xs → get_or (set xs i v) s [] ≡ cond (eqb s i) v (get_or xs s [])
-set_at xs i s v h =
-    elim (cases_eq s i) [
-      | inl e ↦ rw (eq-eqb s i e, e) (get_or-set_same xs i v [] h)
-      | inr n ↦ rw (ne_eqb s i n) (get_or-set_other xs i s v [] n)
-    ]
-
-pub kept_set : (xs : List (List ℕ)) (w : Written) (ys : List (List ℕ)) → ys ≡ set xs w.sector w.bytes → w.sector < length xs → Kept xs w ys
-kept_set xs w ys e h = record { long = ap length e ∙ simp length-set; items = λ s l. ap (λ y. get_or y s []) e ∙ set_at xs w.sector s w.bytes h }
-
-pub kept-none : (xs : List (List ℕ)) (w : Written) → length xs ≤ w.sector → Kept xs w xs
-kept-none xs w h = record { long = refl; items = λ s l. rw (ne_eqb s w.sector (λ e. omega arith)) refl }
 
 -- the write's own sector goes by its own name in the device
 pub since-written : (s : ℕ) (ws : List Written) (x : ℕ) (b : List ℕ) → since_of s (ws ++ (record { sector = x; bytes = b } ∷ [])) ≡ cond (eqb s x) (b ∷ since_of x ws) (since_of s ws)
