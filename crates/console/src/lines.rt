@@ -1,4 +1,5 @@
 // Lines of input, as bytes: a statement may hold any byte but a line feed.
+use crate::drive::Stop;
 use std::io;
 use std::io::BufRead;
 
@@ -34,4 +35,21 @@ pub fn read_line<R: BufRead>(input: &mut R, line: &mut Vec<u8>) -> io::Result<bo
         }
     }
     Ok(any)
+}
+
+// Answers each line that is left, one after the other.
+pub fn for_each_line<R: BufRead, F: FnMut(&[u8]) -> Result<(), Stop>>(
+    input: &mut R,
+    line: &mut Vec<u8>,
+    mut answer: F,
+) -> Result<(), Stop>
+    requires { F.IsAlwaysCallable answer }
+{
+    for _ in 0..u64::MAX {
+        if !read_line(input, line)? {
+            return Ok(());
+        }
+        answer(line.as_slice())?;
+    }
+    Ok(())
 }

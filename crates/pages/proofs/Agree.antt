@@ -22,7 +22,7 @@ not-false false e = absurd (never e)
 
 -- a blank page is all zeros
 pub blank-is : (l : List ℕ) → blank l ≡ true → l ≡ zeros (length l)
-unfolding blank zeros
+unfolding zeros
 blank-is [] e = refl
 blank-is (x ∷ l) e =
     let (a, b) = and-true (eqb x 0) (blank l) e in

@@ -6,7 +6,7 @@
 use console::Stop;
 use console::answers::push_reply;
 use console::drive::answer;
-use console::lines::read_line;
+use console::lines::{for_each_line, read_line};
 use session::{Engine, Reply};
 use std::alloc::Global;
 use std::io;
@@ -115,7 +115,9 @@ impl Rehearsal {
         }
     }
 
-    fn print(&mut self, rt: &HostRuntime) -> Result<(), Stop> {
+    // Plays a line, and prints what was answered.
+    fn answer(&mut self, rt: &HostRuntime, text: &[u8]) -> Result<(), Stop> {
+        self.play(text)?;
         rt.stdout().write_all(self.out.as_slice())?;
         self.out.clear();
         Ok(())
@@ -126,22 +128,13 @@ fn run(rt: &HostRuntime) -> Result<(), Stop> {
     let heap = rt.alloc();
     let mut input = BufReader::new(heap, rt.stdin())?;
     let mut line = Vec::new(heap);
-    let mut more = read_line(&mut input, &mut line)?;
-    let mut size = SECTORS;
-    if let Some(said) = size_of(line.as_slice()) {
-        size = said;
-        more = read_line(&mut input, &mut line)?;
+    let any = read_line(&mut input, &mut line)?;
+    let size = size_of(line.as_slice());
+    let mut rehearsal = Rehearsal::begin(heap, size.unwrap_or(SECTORS))?;
+    if any && size.is_none() {
+        rehearsal.answer(rt, line.as_slice())?;
     }
-    let mut rehearsal = Rehearsal::begin(heap, size)?;
-    for _ in 0..u64::MAX {
-        if !more {
-            return Ok(());
-        }
-        rehearsal.play(line.as_slice())?;
-        rehearsal.print(rt)?;
-        more = read_line(&mut input, &mut line)?;
-    }
-    Ok(())
+    for_each_line(&mut input, &mut line, |text| rehearsal.answer(rt, text))
 }
 
 // Says on standard error why it ended, where it failed.

@@ -5,7 +5,7 @@
 use console::Stop;
 use console::answers::push_reply;
 use console::drive::answer;
-use console::lines::read_line;
+use console::lines::for_each_line;
 use session::{Engine, Reply, Unopened};
 use std::io::{BufReader, Write};
 use std::process::ExitCode;
@@ -83,13 +83,7 @@ fn serve(rt: &HostRuntime, engine: Engine, disk: FileDisk) -> Result<(), Stop> {
     let _ = console.hear()?;
     let mut input = BufReader::new(heap, rt.stdin())?;
     let mut line = Vec::new(heap);
-    for _ in 0..u64::MAX {
-        if !read_line(&mut input, &mut line)? {
-            return Ok(());
-        }
-        console.say(rt, line.as_slice())?;
-    }
-    Ok(())
+    for_each_line(&mut input, &mut line, |text| console.say(rt, text))
 }
 
 // Why nothing more is answered.
