@@ -119,6 +119,7 @@ fn halve<F: Fn(usize) -> bool>(n: usize, test: F) -> usize
     requires { F.IsAlwaysCallable test }
     ensures { (f : ℕ → Bool) → Tells (F.post test) n f → Falls n f → Halved n f result }
 {
+    // kept: halving by hand, by (d): the library halves slices, and a page's entries lie in none
     let mut low = 0;
     let mut high = n;
     while low < high {

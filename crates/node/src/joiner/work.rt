@@ -12,12 +12,8 @@ impl Joiner {
     pub fn new(heap: Global) -> Result<Joiner, AllocError>
         ensures { IfOk result (λ j. pages_of j ≡ []) }
     {
-        let mut pages = Vec::new(heap);
-        for _ in 0..MOST {
-            pages.push([0; 4096])?;
-        }
         Ok(Joiner {
-            pages,
+            pages: vec![in heap; [0; 4096]; MOST]?,
             len: 0,
             level: 0,
         })
@@ -92,6 +88,7 @@ impl Joiner {
     fn push_all(&mut self, node: Node) -> Result<(), Full>
         ensures { Whole node.entry.page.now → AllPushed self.old (entries_in node.entry.page.now) result self.new }
     {
+        // kept: numbers, by (d): a page's entries are found by number, and lie in no slice
         for i in 0..node.count() {
             self.push_on(node.entry(i))?;
         }
