@@ -19,7 +19,7 @@ use Rattle.pager.specs.Model.{Held, undone, committed, Replies, commits, start_h
 use Rattle.pager.specs.declared.state.Call.{Call}
 use Rattle.pager.specs.declared.state.Call.TheVariants.{Get, Put, Give, Vacant, Commit, Undo}
 use Rattle.pager.specs.declared.state.Reply.{Reply}
-use Rattle.pager.specs.declared.state.Reply.TheVariants.{Page, Done, NoRoom, At, Nowhere, Outside}
+use Rattle.pager.specs.declared.state.Reply.TheVariants.{Page, Done, NoRoom, Found, Outside}
 use Rattle.pager.specs.declared.state.Phase.{Phase}
 use Rattle.pager.specs.declared.state.Phase.TheVariants.{Opening, Header, Fetch, Loading, Check, Comparing, Idle, Asked, Short, Getting, Putting, Filling, Settled, Marked, Sealed}
 use Rattle.pager.specs.declared.state.Pager.{Pager}
@@ -228,8 +228,8 @@ module _ (N M S : ℕ) (few : N ≤ 64 * M) where
     falls-call (Put p) (inr (inr x)) = falls-put p x.slot x.ends
     falls-call (Give p) (inl x) = gave Outside _ _ x.1.ask
     falls-call (Give p) (inr x) = falls-give p x.slot x.ends
-    falls-call (Vacant p) (inl x) = gave (At x.page) _ _ x.goes.ask
-    falls-call (Vacant p) (inr x) = gave Nowhere _ _ x.goes.ask
+    falls-call (Vacant p) (inl x) = gave (Found (Some x.page)) _ _ x.goes.ask
+    falls-call (Vacant p) (inr x) = gave (Found None) _ _ x.goes.ask
     falls-call Commit x = to (Filling 0) (Asked Commit) x.phase (omega arith)
     falls-call Undo x = gave Done _ _ x.ask
 

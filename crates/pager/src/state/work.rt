@@ -249,10 +249,7 @@ impl Pager {
     {
         let page = (p..self.pages).find(|q| self.present[*q] == 0);
         self.phase = Phase::Idle;
-        match page {
-            Some(page) => Ask::Answer(Reply::At(page as u64)),
-            None => Ask::Answer(Reply::Nowhere),
-        }
+        Ask::Answer(Reply::Found(page.map(|page| page as u64)))
     }
 }
 
