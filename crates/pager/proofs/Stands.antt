@@ -124,12 +124,12 @@ module _ (N M S : ℕ) (few : N ≤ 64 * M) where
 
   climbs : (s : Held) (m n : Pager) (g : List ℕ) (d : Device) (r : Asking) → Rising N M S few s m g d → Stepped m g r n → Then d n.sector r (Rising N M S few s n) (λ _. Ready N M S few s n d)
   unfolding Climbs
-  climbs s m n g d r h x = climb N M S few s m n g d (fixed_on N M S few m n x.sizes h.fixed) h.off r m.phase h.at (at-fixed m n g r h.fixed x.at)
+  climbs s m n g d r h x = climb N M S few s m n g d (fixed_on N M S few m n x.does.sizes h.fixed) h.off r m.phase h.at (at-fixed m n g r h.fixed x.does.at)
 
   goes : (c : With Call) (s : Held) (m n : Pager) (g : List ℕ) (d : Device) (r : Asking) → Busy N M S few c s m g d → Stepped m g r n →
       Then d n.sector r (Busy N M S few c s n) (λ y. (t : Held) × Replies N S c s (and y (held n)) t × Ready N M S few t n d)
   unfolding Works
-  goes c s m n g d r h x = work N M S few c s m n g d h.fixed (fixed_on N M S few m n x.sizes h.fixed) r m.phase h.at (at-fixed m n g r h.fixed x.at)
+  goes c s m n g d r h x = work N M S few c s m n g d h.fixed (fixed_on N M S few m n x.does.sizes h.fixed) r m.phase h.at (at-fixed m n g r h.fixed x.does.at)
 
   -- ON EVERY CONTENT OF THE DEVICE: a step alone says that it stays within the device
   module _ (size : ℕ) (areas : 1 + 2 * M ≤ size) (tight : 1 + 2 * M + 8 * S ≤ size) where
@@ -309,8 +309,8 @@ steadily size z =
       opens = λ m p. record { pages = p.pages; maps = p.maps; slots = p.slots };
       begins = λ c m n h p. fixed_on N M S few m n p.sizes h;
       steps = λ m n g r h s p. (
-        fair-at N M S few size (omega (arith, z.least)) (omega (arith, z.least)) m.phase m n g r p.sector (at-fixed N M S few m n g r h p.at),
-        then-any N M S few r n (fixed_on N M S few m n p.sizes h),
+        fair-at N M S few size (omega (arith, z.least)) (omega (arith, z.least)) m.phase m n g r p.sector (at-fixed N M S few m n g r h p.does.at),
+        then-any N M S few r n (fixed_on N M S few m n p.does.sizes h),
       );
     }
 
@@ -320,5 +320,5 @@ pager-whole = record {
   keeps = λ size z. keeps (pager_judge size) pager_engine size (standing size);
   within = λ size z. within_by pager_engine size (steadily size z);
   ends = λ size z. ends_by pager_engine size (steadily size z) (λ m. soon (pages size) (map_sectors size) (slots size) (few-of size) m.phase)
-      (λ m n g r h s p k. falls_at (pages size) (map_sectors size) (slots size) (few-of size) m n g r k m.phase (at-fixed (pages size) (map_sectors size) (slots size) (few-of size) m n g r h p.at));
+      (λ m n g r h s p k. falls_at (pages size) (map_sectors size) (slots size) (few-of size) m n g r k m.phase (at-fixed (pages size) (map_sectors size) (slots size) (few-of size) m n g r h p.does.at));
 }

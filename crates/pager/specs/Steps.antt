@@ -330,9 +330,13 @@ PhaseAt N M S Settled m g r n = Goes m r Marked (Write 0) n × (area_in n.sector
 PhaseAt N M S Marked m g r n = Goes m r Sealed Sync n
 PhaseAt N M S Sealed m g r n = SealAt M m r n
 
-pub record Stepped (m : Pager) (g : List ℕ) (r : Asking) (n : Pager) : Type 0 where
-  pub at : PhaseAt m.pages m.maps m.slots m.phase m g r n
+-- what is done in a phase; g is what was read last
+pub record Does (p : Phase) (m : Pager) (g : List ℕ) (r : Asking) (n : Pager) : Type 0 where
+  pub at : PhaseAt m.pages m.maps m.slots p m g r n
   pub sizes : Sizes m n
+
+pub record Stepped (m : Pager) (g : List ℕ) (r : Asking) (n : Pager) : Type 0 where
+  pub does : Does m.phase m g r n
   pub sector : Sector n.sector
 
 -- how a call is taken
