@@ -2,56 +2,71 @@
 use device::vector::Vector;
 use device::{Ask, Over, Store};
 use pager::Pager;
-use pages::{Frames, PageReply};
+use pages::{Frames, Reply};
 use std::alloc::{AllocError, Global};
+use std::fmt;
+use std::ops::Add;
 
-#[derive(Clone, Copy)]
+// Pages on a device.
+pub type Tower = Over<Pager, Frames>;
+
+// How often a device was asked for what.
+#[derive(Clone, Copy, Default)]
 pub struct Asks {
-    pub reads: u64,
-    pub writes: u64,
-    pub syncs: u64,
+    reads: u64,
+    writes: u64,
+    syncs: u64,
 }
 
-pub fn none() -> Asks {
-    Asks {
-        reads: 0,
-        writes: 0,
-        syncs: 0,
+impl Asks {
+    fn count<V, R>(&mut self, ask: &Ask<V, R>) {
+        match ask {
+            Ask::Read(_) => self.reads = self.reads.wrapping_add(1),
+            Ask::Write(_) => self.writes = self.writes.wrapping_add(1),
+            Ask::Sync => self.syncs = self.syncs.wrapping_add(1),
+            Ask::Again | Ask::Hand(_) | Ask::Answer(_) => {}
+        }
     }
 }
 
-pub fn both(a: Asks, b: Asks) -> Asks {
-    Asks {
-        reads: a.reads.wrapping_add(b.reads),
-        writes: a.writes.wrapping_add(b.writes),
-        syncs: a.syncs.wrapping_add(b.syncs),
+impl Add for Asks {
+    type Output = Asks;
+
+    fn add(self, other: Asks) -> Asks {
+        Asks {
+            reads: self.reads.wrapping_add(other.reads),
+            writes: self.writes.wrapping_add(other.writes),
+            syncs: self.syncs.wrapping_add(other.syncs),
+        }
+    }
+}
+
+impl fmt::Display for Asks {
+    fn fmt<W: fmt::Write>(&self, f: &mut fmt::Formatter<W>) -> fmt::Result {
+        write!(
+            f,
+            "sectors read {}, written {}, syncs {}",
+            self.reads, self.writes, self.syncs
+        )
     }
 }
 
 // Up to so many steps of a store on a device.
 pub fn run(
-    store: &mut Over<Pager, Frames>,
+    store: &mut Tower,
     disk: &mut Vector,
     steps: u32,
-) -> Result<(Option<PageReply>, Asks), AllocError> {
+) -> Result<(Option<Reply>, Asks), AllocError> {
     let mut given = [0; 512];
-    let mut asks = none();
+    let mut asks = Asks::default();
     for _ in 0..steps {
-        match store.step(&given) {
-            Ask::Read(sector) => {
-                asks.reads = asks.reads.wrapping_add(1);
-                given = disk.read(sector as usize);
-            }
-            Ask::Write(sector) => {
-                asks.writes = asks.writes.wrapping_add(1);
-                disk.write(sector as usize, store.buffer())?;
-            }
-            Ask::Sync => {
-                asks.syncs = asks.syncs.wrapping_add(1);
-                disk.sync();
-            }
-            Ask::Again => {}
-            Ask::Hand(_) => {}
+        let ask = store.step(&given);
+        asks.count(&ask);
+        match ask {
+            Ask::Read(sector) => given = disk.read(sector as usize),
+            Ask::Write(sector) => disk.write(sector as usize, store.buffer())?,
+            Ask::Sync => disk.sync(),
+            Ask::Again | Ask::Hand(_) => {}
             Ask::Answer(reply) => return Ok((Some(reply), asks)),
         }
     }
@@ -61,16 +76,12 @@ pub fn run(
 // What coming up asks for, on a blank device of any size.
 pub fn opening(heap: Global, size: u64) -> Result<Asks, AllocError> {
     let mut store = pages::open(heap, size)?;
-    let given = [0; 512];
-    let mut asks = none();
-    for _ in 0..100000u32 {
-        match store.step(&given) {
-            Ask::Read(_) => asks.reads = asks.reads.wrapping_add(1),
-            Ask::Write(_) => asks.writes = asks.writes.wrapping_add(1),
-            Ask::Sync => asks.syncs = asks.syncs.wrapping_add(1),
-            Ask::Again => {}
-            Ask::Hand(_) => {}
-            Ask::Answer(_) => return Ok(asks),
+    let mut asks = Asks::default();
+    for _ in 0..100000 {
+        let ask = store.step(&[0; 512]);
+        asks.count(&ask);
+        if let Ask::Answer(_) = ask {
+            break;
         }
     }
     Ok(asks)

@@ -3,15 +3,8 @@ pub const PAGES: usize = 200;
 
 #[derive(Clone, Copy)]
 pub struct Model {
-    base: [u64; 200],
-    now: [u64; 200],
-}
-
-pub fn blank() -> Model {
-    Model {
-        base: [0; 200],
-        now: [0; 200],
-    }
+    base: [u64; PAGES],
+    now: [u64; PAGES],
 }
 
 // The byte i of a page.
@@ -26,59 +19,65 @@ fn byte(n: usize, version: u64, i: usize) -> u8 {
     (x % 251) as u8
 }
 
+// A page in a version.
 pub fn page(n: usize, version: u64) -> [u8; 4096] {
     let mut bytes = [0; 4096];
-    for i in 0..4096 {
-        bytes[i] = byte(n, version, i);
+    for (i, b) in bytes.iter_mut().enumerate() {
+        *b = byte(n, version, i);
     }
     bytes
 }
 
-pub fn same(bytes: &[u8], n: usize, version: u64) -> bool {
-    for i in 0..bytes.len() {
-        if bytes[i] != byte(n, version, i) {
-            return false;
+impl Model {
+    pub fn blank() -> Model {
+        Model {
+            base: [0; PAGES],
+            now: [0; PAGES],
         }
     }
-    bytes.len() == 4096
-}
 
-pub fn version(model: &Model, n: usize) -> u64 {
-    if n < PAGES { model.now[n] } else { 0 }
-}
-
-pub fn put(model: &mut Model, n: usize, version: u64) {
-    if n < PAGES {
-        model.now[n] = version;
+    fn version(&self, n: usize) -> u64 {
+        self.now.get(n).copied().unwrap_or(0)
     }
-}
 
-pub fn commit(model: &mut Model) {
-    let now = model.now;
-    model.base = now;
-}
+    // Whether bytes are a page as it is now.
+    pub fn shows(&self, n: usize, bytes: &[u8]) -> bool {
+        let version = self.version(n);
+        bytes.len() == 4096
+            && bytes
+                .iter()
+                .enumerate()
+                .all(|(i, b)| *b == byte(n, version, i))
+    }
 
-pub fn undo(model: &mut Model) {
-    let base = model.base;
-    model.now = base;
-}
-
-// The first blank page from n on.
-pub fn vacant(model: &Model, n: usize) -> u64 {
-    for k in n..PAGES {
-        if model.now[k] == 0 {
-            return k as u64;
+    pub fn put(&mut self, n: usize, version: u64) {
+        if let Some(now) = self.now.get_mut(n) {
+            *now = version;
         }
     }
-    PAGES as u64
-}
 
-// A page that is another one than as committed, if there is any.
-pub fn changed(model: &Model) -> usize {
-    for n in 0..PAGES {
-        if model.now[n] != model.base[n] {
-            return n;
-        }
+    pub fn commit(&mut self) {
+        self.base = self.now;
     }
-    0
+
+    pub fn undo(&mut self) {
+        self.now = self.base;
+    }
+
+    // The first blank page from n on.
+    pub fn vacant(&self, n: usize) -> usize {
+        self.now
+            .iter()
+            .skip(n)
+            .position(|version| *version == 0)
+            .map_or(PAGES, |k| n.saturating_add(k))
+    }
+
+    // A page that is another one than as committed, if there is any.
+    pub fn changed(&self) -> Option<usize> {
+        self.now
+            .iter()
+            .zip(&self.base)
+            .position(|(now, base)| now != base)
+    }
 }

@@ -19,7 +19,7 @@ use Rattle.pager.specs.Model.{Held, undone, committed, Replies, commits, start_h
 use Rattle.pager.specs.declared.state.Call.{Call}
 use Rattle.pager.specs.declared.state.Call.TheVariants.{Get, Put, Give, Vacant, Commit, Undo}
 use Rattle.pager.specs.declared.state.Reply.{Reply}
-use Rattle.pager.specs.declared.state.Reply.TheVariants.{Page, Done, NoRoom, At, Nowhere, Outside}
+use Rattle.pager.specs.declared.state.Reply.TheVariants.{Page, Done, NoRoom, Found, Outside}
 use Rattle.pager.specs.declared.state.Phase.{Phase}
 use Rattle.pager.specs.declared.state.Phase.TheVariants.{Opening, Header, Fetch, Loading, Check, Comparing, Idle, Asked, Short, Getting, Putting, Filling, Settled, Marked, Sealed}
 use Rattle.pager.specs.declared.state.Pager.{Pager}
@@ -124,12 +124,12 @@ module _ (N M S : ℕ) (few : N ≤ 64 * M) where
 
   climbs : (s : Held) (m n : Pager) (g : List ℕ) (d : Device) (r : Asking) → Rising N M S few s m g d → Stepped m g r n → Then d n.sector r (Rising N M S few s n) (λ _. Ready N M S few s n d)
   unfolding Climbs
-  climbs s m n g d r h x = climb N M S few s m n g d (fixed_on N M S few m n x.sizes h.fixed) h.off r m.phase h.at (at-fixed m n g r h.fixed x.at)
+  climbs s m n g d r h x = climb N M S few s m n g d (fixed_on N M S few m n x.does.sizes h.fixed) h.off r m.phase h.at (at-fixed m n g r h.fixed x.does.at)
 
   goes : (c : With Call) (s : Held) (m n : Pager) (g : List ℕ) (d : Device) (r : Asking) → Busy N M S few c s m g d → Stepped m g r n →
       Then d n.sector r (Busy N M S few c s n) (λ y. (t : Held) × Replies N S c s (and y (held n)) t × Ready N M S few t n d)
   unfolding Works
-  goes c s m n g d r h x = work N M S few c s m n g d h.fixed (fixed_on N M S few m n x.sizes h.fixed) r m.phase h.at (at-fixed m n g r h.fixed x.at)
+  goes c s m n g d r h x = work N M S few c s m n g d h.fixed (fixed_on N M S few m n x.does.sizes h.fixed) r m.phase h.at (at-fixed m n g r h.fixed x.does.at)
 
   -- ON EVERY CONTENT OF THE DEVICE: a step alone says that it stays within the device
   module _ (size : ℕ) (areas : 1 + 2 * M ≤ size) (tight : 1 + 2 * M + 8 * S ≤ size) where
@@ -228,8 +228,8 @@ module _ (N M S : ℕ) (few : N ≤ 64 * M) where
     falls-call (Put p) (inr (inr x)) = falls-put p x.slot x.ends
     falls-call (Give p) (inl x) = gave Outside _ _ x.1.ask
     falls-call (Give p) (inr x) = falls-give p x.slot x.ends
-    falls-call (Vacant p) (inl x) = gave (At x.page) _ _ x.goes.ask
-    falls-call (Vacant p) (inr x) = gave Nowhere _ _ x.goes.ask
+    falls-call (Vacant p) (inl x) = gave (Found (Some x.page)) _ _ x.goes.ask
+    falls-call (Vacant p) (inr x) = gave (Found None) _ _ x.goes.ask
     falls-call Commit x = to (Filling 0) (Asked Commit) x.phase (omega arith)
     falls-call Undo x = gave Done _ _ x.ask
 
@@ -309,8 +309,8 @@ steadily size z =
       opens = λ m p. record { pages = p.pages; maps = p.maps; slots = p.slots };
       begins = λ c m n h p. fixed_on N M S few m n p.sizes h;
       steps = λ m n g r h s p. (
-        fair-at N M S few size (omega (arith, z.least)) (omega (arith, z.least)) m.phase m n g r p.sector (at-fixed N M S few m n g r h p.at),
-        then-any N M S few r n (fixed_on N M S few m n p.sizes h),
+        fair-at N M S few size (omega (arith, z.least)) (omega (arith, z.least)) m.phase m n g r p.sector (at-fixed N M S few m n g r h p.does.at),
+        then-any N M S few r n (fixed_on N M S few m n p.does.sizes h),
       );
     }
 
@@ -320,5 +320,5 @@ pager-whole = record {
   keeps = λ size z. keeps (pager_judge size) pager_engine size (standing size);
   within = λ size z. within_by pager_engine size (steadily size z);
   ends = λ size z. ends_by pager_engine size (steadily size z) (λ m. soon (pages size) (map_sectors size) (slots size) (few-of size) m.phase)
-      (λ m n g r h s p k. falls_at (pages size) (map_sectors size) (slots size) (few-of size) m n g r k m.phase (at-fixed (pages size) (map_sectors size) (slots size) (few-of size) m n g r h p.at));
+      (λ m n g r h s p k. falls_at (pages size) (map_sectors size) (slots size) (few-of size) m n g r k m.phase (at-fixed (pages size) (map_sectors size) (slots size) (few-of size) m n g r h p.does.at));
 }

@@ -42,7 +42,7 @@ use Rattle.pager.specs.Model.{Held, undone, committed, changed, cleared, Replies
 use Rattle.pager.specs.declared.state.Call.{Call}
 use Rattle.pager.specs.declared.state.Call.TheVariants.{Get, Put, Give, Vacant, Commit, Undo}
 use Rattle.pager.specs.declared.state.Reply.{Reply}
-use Rattle.pager.specs.declared.state.Reply.TheVariants.{Page, Done, NoRoom, At, Nowhere, Outside}
+use Rattle.pager.specs.declared.state.Reply.TheVariants.{Page, Done, NoRoom, Found, Outside}
 use Rattle.pager.specs.declared.state.Phase.{Phase}
 use Rattle.pager.specs.declared.state.Phase.TheVariants.{Opening, Header, Fetch, Loading, Check, Comparing, Idle, Asked, Short, Getting, Putting, Filling, Settled, Marked, Sealed}
 use Rattle.pager.specs.declared.state.Pager.{Pager}
@@ -247,9 +247,9 @@ module _ (N M S : ℕ) (few : N ≤ 64 * M) where
 
     at-vacant : (r : Asking) (p : ℕ) → Vacant p ≡ c.it → Of (Stand N M S few s d) m → FoundAt N p m r n ⊎ NotFound N p m r n → Works r
     at-vacant r p e h (inl x) =
-        answers (Vacant p) r (At x.page) s e x.goes.ask (finds p x.page c.bytes (held n) s x.from x.inside (h.lived.has x.page x.inside ∙ ap (leb 1) x.none)
+        answers (Vacant p) r (Found (Some x.page)) s e x.goes.ask (finds p x.page c.bytes (held n) s x.from x.inside (h.lived.has x.page x.inside ∙ ap (leb 1) x.none)
         (λ k a b. h.lived.has k (omega (arith, x.inside)) ∙ le-leb 1 (ws m k) (x.least k a b))) (ready-same s x.goes.same h)
-    at-vacant r p e h (inr x) = answers (Vacant p) r Nowhere s e x.goes.ask (finds_none p c.bytes (held n) s (λ k a b. h.lived.has k b ∙ le-leb 1 (ws m k) (x.all k a b))) (ready-same s x.goes.same h)
+    at-vacant r p e h (inr x) = answers (Vacant p) r (Found None) s e x.goes.ask (finds_none p c.bytes (held n) s (λ k a b. h.lived.has k b ∙ le-leb 1 (ws m k) (x.all k a b))) (ready-same s x.goes.same h)
 
     at-undo : (r : Asking) → Undo ≡ c.it → Of (Stand N M S few s d) m → UndoAt M m r n → Works r
     at-undo r e h x =

@@ -1,5 +1,5 @@
 -- What the pager is to be, and the pager as its contracts have it.
-use Rattle.std.specs.Prelude.{◌≡◌, ℕ, ◌+◌, ◌*◌, ◌<◌, ◌≤◌, Bool, true, false, List, length, vec_len, ◌≢◌}
+use Rattle.std.specs.Prelude.{◌≡◌, ℕ, ◌+◌, ◌*◌, ◌<◌, ◌≤◌, Bool, true, false, Some, None, List, length, vec_len, ◌≢◌}
 use Rattle.device.specs.Device.{With, and, Engine, Judge}
 use Rattle.device.specs.Runs.{Whole}
 use Rattle.device.specs.declared.Never.{Never}
@@ -9,7 +9,7 @@ use Rattle.pager.specs.Steps.{Opened, Called, Stepped, held}
 use Rattle.pager.specs.declared.state.Call.{Call}
 use Rattle.pager.specs.declared.state.Call.TheVariants.{Get, Put, Give, Vacant, Commit, Undo}
 use Rattle.pager.specs.declared.state.Reply.{Reply}
-use Rattle.pager.specs.declared.state.Reply.TheVariants.{Page, Done, NoRoom, At, Nowhere, Outside}
+use Rattle.pager.specs.declared.state.Reply.TheVariants.{Page, Done, NoRoom, Found, Outside}
 use Rattle.pager.specs.declared.state.Pager.{Pager}
 
 -- the pages as committed, and as they are; which have a slot as committed, and which have one now; which have been given one of their own since the last commit or undo
@@ -53,8 +53,8 @@ pub data Replies (N S : ℕ) : With Call → Held → With Reply → Held → Ty
   lends : (p : ℕ) (b v y : List ℕ) (s : Held) → p < N → Replies N S (and (Give p) b) s (and Done y) (changed p v s)
   lends_none : (p : ℕ) (b y : List ℕ) (s : Held) → N ≤ p → Replies N S (and (Give p) b) s (and Outside y) s
   lends_full : (p : ℕ) (b y : List ℕ) (s : Held) → Crowded N S p s → Replies N S (and (Give p) b) s (and NoRoom y) s
-  finds : (p q : ℕ) (b y : List ℕ) (s : Held) → p ≤ q → q < N → s.has q ≡ false → ((k : ℕ) → p ≤ k → k < q → s.has k ≡ true) → Replies N S (and (Vacant p) b) s (and (At q) y) s
-  finds_none : (p : ℕ) (b y : List ℕ) (s : Held) → ((k : ℕ) → p ≤ k → k < N → s.has k ≡ true) → Replies N S (and (Vacant p) b) s (and Nowhere y) s
+  finds : (p q : ℕ) (b y : List ℕ) (s : Held) → p ≤ q → q < N → s.has q ≡ false → ((k : ℕ) → p ≤ k → k < q → s.has k ≡ true) → Replies N S (and (Vacant p) b) s (and (Found (Some q)) y) s
+  finds_none : (p : ℕ) (b y : List ℕ) (s : Held) → ((k : ℕ) → p ≤ k → k < N → s.has k ≡ true) → Replies N S (and (Vacant p) b) s (and (Found None) y) s
   commits : (b y : List ℕ) (s : Held) → Replies N S (and Commit b) s (and Done y) (committed s)
   undoes : (b y : List ℕ) (s : Held) → Replies N S (and Undo b) s (and Done y) (undone s)
 

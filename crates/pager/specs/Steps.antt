@@ -9,7 +9,7 @@ use Rattle.device.specs.declared.Ask.TheVariants.{Read, Write, Sync, Again, Answ
 use Rattle.pager.specs.declared.state.Call.{Call}
 use Rattle.pager.specs.declared.state.Call.TheVariants.{Get, Put, Give, Vacant, Commit, Undo}
 use Rattle.pager.specs.declared.state.Reply.{Reply}
-use Rattle.pager.specs.declared.state.Reply.TheVariants.{Page, Done, NoRoom, At, Nowhere, Outside}
+use Rattle.pager.specs.declared.state.Reply.TheVariants.{Page, Done, NoRoom, Found, Outside}
 use Rattle.pager.specs.declared.state.Phase.{Phase}
 use Rattle.pager.specs.declared.state.Phase.TheVariants.{Opening, Header, Fetch, Loading, Check, Comparing, Idle, Asked, Short, Getting, Putting, Filling, Settled, Marked, Sealed}
 use Rattle.pager.specs.declared.state.Pager.{Pager}
@@ -260,11 +260,11 @@ pub record FoundAt (N p : ℕ) (m : Pager) (r : Asking) (n : Pager) : Type 0 whe
   pub inside : page < N
   pub none : ws m page ≡ 0
   pub least : (q : ℕ) → p ≤ q → q < page → 1 ≤ ws m q
-  pub goes : Goes m r Idle (Answer (At page)) n
+  pub goes : Goes m r Idle (Answer (Found (Some page))) n
 
 pub record NotFound (N p : ℕ) (m : Pager) (r : Asking) (n : Pager) : Type 0 where
   pub all : (q : ℕ) → p ≤ q → q < N → 1 ≤ ws m q
-  pub goes : Goes m r Idle (Answer Nowhere) n
+  pub goes : Goes m r Idle (Answer (Found None)) n
 
 -- undo: what the flagged map sectors had as committed
 pub record UndoAt (M : ℕ) (m : Pager) (r : Asking) (n : Pager) : Type 0 where
@@ -330,9 +330,13 @@ PhaseAt N M S Settled m g r n = Goes m r Marked (Write 0) n × (area_in n.sector
 PhaseAt N M S Marked m g r n = Goes m r Sealed Sync n
 PhaseAt N M S Sealed m g r n = SealAt M m r n
 
-pub record Stepped (m : Pager) (g : List ℕ) (r : Asking) (n : Pager) : Type 0 where
-  pub at : PhaseAt m.pages m.maps m.slots m.phase m g r n
+-- what is done in a phase; g is what was read last
+pub record Does (p : Phase) (m : Pager) (g : List ℕ) (r : Asking) (n : Pager) : Type 0 where
+  pub at : PhaseAt m.pages m.maps m.slots p m g r n
   pub sizes : Sizes m n
+
+pub record Stepped (m : Pager) (g : List ℕ) (r : Asking) (n : Pager) : Type 0 where
+  pub does : Does m.phase m g r n
   pub sector : Sector n.sector
 
 -- how a call is taken

@@ -16,15 +16,16 @@ pub enum Call {
     Undo,
 }
 
-#[derive(Clone, Copy)]
+// kept: refusals are variants and no Err, since a reply is passed on as one value by each layer, and none goes on with `?`
+#[derive(Clone, Copy, PartialEq, Eq)]
 pub enum Reply {
     // the bytes of the page are shown
     Page,
     Done,
     // every slot is in use
     NoRoom,
-    At(u64),
-    Nowhere,
+    // the page that was searched for, if there is one
+    Found(Option<u64>),
     // there is no such page, or it is not 4,096 bytes
     Outside,
 }

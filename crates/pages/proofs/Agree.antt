@@ -58,8 +58,8 @@ module _ (N : ℕ) where
     pub own : (p : ℕ) → p < N → (E p → ⊥) → g (frame_of p) ≡ p + 1 → z (frame_of p) ≡ true → s.given p ≡ true
     pub cold : (p : ℕ) → p < N → (E p → ⊥) → (g (frame_of p) ≡ p + 1 → z (frame_of p) ≡ true → ⊥) → s.now p ≡ t.now p
 
-  abbrev pub None : ℕ → Type 0
-  None p = ⊥
+  abbrev pub NoPage : ℕ → Type 0
+  NoPage p = ⊥
 
   -- the page p is another one, for the pager and as it is to be: the frames stand but for p
   pub record Only (p : ℕ) (s s' : Held) (t t' : Pages) : Type 0 where
@@ -67,7 +67,7 @@ module _ (N : ℕ) where
     pub below : (q : ℕ) → (q ≡ p → ⊥) → s'.now q ≡ s.now q
     pub above : (q : ℕ) → (q ≡ p → ⊥) → t'.now q ≡ t.now q
 
-  pub cache-but : (p : ℕ) (g : ℕ → ℕ) (z : ℕ → Bool) (r : ℕ → List ℕ) (s s' : Held) (t t' : Pages) → Only p s s' t t' → Cache None g z r s t → Cache (λ q. q ≡ p) g z r s' t'
+  pub cache-but : (p : ℕ) (g : ℕ → ℕ) (z : ℕ → Bool) (r : ℕ → List ℕ) (s s' : Held) (t t' : Pages) → Only p s s' t t' → Cache NoPage g z r s t → Cache (λ q. q ≡ p) g z r s' t'
   cache-but p g z r s s' t t' o h = record {
     inside = h.inside;
     tagged = h.tagged;
@@ -130,7 +130,7 @@ module _ (N : ℕ) where
           let n = eqb-false (frame_of q) (frame_of p) k in
           h.cold q l (other-frame q n) (λ u v. e (tags (frame_of q) n ∙ u) (flags (frame_of q) n ∙ v))
 
-      pub cache-fill : Cache None g' z' r' s t
+      pub cache-fill : Cache NoPage g' z' r' s t
       cache-fill = record {
         inside = λ f q e. fill-inside f q e (eqb f (frame_of p)) refl;
         tagged = λ f e. fill-tagged f e (eqb f (frame_of p)) refl;
@@ -168,7 +168,7 @@ module _ (N : ℕ) where
         let v = tags f n in
         omega arith
 
-    pub cache-leave : Cache None g' z' r' s t
+    pub cache-leave : Cache NoPage g' z' r' s t
     cache-leave = record {
       inside = λ f q e. leave-inside f q e (eqb f (frame_of p)) refl;
       tagged = λ f e. leave-tagged f e (eqb f (frame_of p)) refl;
@@ -178,7 +178,7 @@ module _ (N : ℕ) where
     }
 
   -- a page that is in no frame, and that the pager has
-  pub cache-plain : (p : ℕ) (g : ℕ → ℕ) (z : ℕ → Bool) (r : ℕ → List ℕ) (s : Held) (t : Pages) → (g (frame_of p) ≡ p + 1 → ⊥) → (p < N → s.now p ≡ t.now p) → Cache (λ q. q ≡ p) g z r s t → Cache None g z r s t
+  pub cache-plain : (p : ℕ) (g : ℕ → ℕ) (z : ℕ → Bool) (r : ℕ → List ℕ) (s : Held) (t : Pages) → (g (frame_of p) ≡ p + 1 → ⊥) → (p < N → s.now p ≡ t.now p) → Cache (λ q. q ≡ p) g z r s t → Cache NoPage g z r s t
   cache-plain p g z r s t n same h = record {
     inside = h.inside;
     tagged = h.tagged;
@@ -191,7 +191,7 @@ module _ (N : ℕ) where
       by q l e true j = let y = eqb-true q p j in ap s.now y ∙ same (omega arith) ∙ ap t.now (sym y)
       by q l e false j = h.cold q l (eqb-false q p j) e
 
-  pub cache-weak : (p : ℕ) (g : ℕ → ℕ) (z : ℕ → Bool) (r : ℕ → List ℕ) (s : Held) (t : Pages) → Cache None g z r s t → Cache (λ q. q ≡ p) g z r s t
+  pub cache-weak : (p : ℕ) (g : ℕ → ℕ) (z : ℕ → Bool) (r : ℕ → List ℕ) (s : Held) (t : Pages) → Cache NoPage g z r s t → Cache (λ q. q ≡ p) g z r s t
   cache-weak p g z r s t h = cache-but p g z r s s t t (record { given = λ q n. refl; below = λ q n. refl; above = λ q n. refl }) h
 
   -- A FRAME IS WRITTEN BACK: the frame f, which has page q
@@ -341,7 +341,7 @@ module _ (N : ℕ) where
     same = h.base;
   }
 
-  pub cache-empty : (g : ℕ → ℕ) (z : ℕ → Bool) (r : ℕ → List ℕ) (s : Held) (t : Pages) → ((f : ℕ) → g f ≡ 0) → ((f : ℕ) → z f ≡ false) → Down s t → Cache None g z r s t
+  pub cache-empty : (g : ℕ → ℕ) (z : ℕ → Bool) (r : ℕ → List ℕ) (s : Held) (t : Pages) → ((f : ℕ) → g f ≡ 0) → ((f : ℕ) → z f ≡ false) → Down s t → Cache NoPage g z r s t
   cache-empty g z r s t none clean h = record {
     inside = λ f q e. absurd (let u = none f in omega arith);
     tagged = λ f e. absurd (never (sym e ∙ clean f));
@@ -350,13 +350,13 @@ module _ (N : ℕ) where
     cold = λ p l _ _. h.same p l;
   }
 
-  pub clean-same : (g : ℕ → ℕ) (z : ℕ → Bool) (r : ℕ → List ℕ) (s : Held) (t : Pages) → ((f : ℕ) → f < 128 → z f ≡ false) → Cache None g z r s t → (p : ℕ) → p < N → s.now p ≡ t.now p
+  pub clean-same : (g : ℕ → ℕ) (z : ℕ → Bool) (r : ℕ → List ℕ) (s : Held) (t : Pages) → ((f : ℕ) → f < 128 → z f ≡ false) → Cache NoPage g z r s t → (p : ℕ) → p < N → s.now p ≡ t.now p
   clean-same g z r s t clean h p l = h.cold p l (λ x. x) (λ e d. never (sym d ∙ clean (frame_of p) (omega arith)))
 
   pub core-keep : (s : Held) (t : Pages) → Core s t → ((p : ℕ) → p < N → s.now p ≡ t.now p) → Core (committed s) (keep t)
   core-keep s t h e = record { base = e; live = h.has; has = h.has; given = λ p l. refl; long = h.long; long_base = h.long }
 
-  pub cache-keep : (g : ℕ → ℕ) (z : ℕ → Bool) (r : ℕ → List ℕ) (s : Held) (t : Pages) → ((f : ℕ) → f < 128 → z f ≡ false) → Cache None g z r s t → Cache None g z r (committed s) (keep t)
+  pub cache-keep : (g : ℕ → ℕ) (z : ℕ → Bool) (r : ℕ → List ℕ) (s : Held) (t : Pages) → ((f : ℕ) → f < 128 → z f ≡ false) → Cache NoPage g z r s t → Cache NoPage g z r (committed s) (keep t)
   cache-keep g z r s t clean h = record {
     inside = h.inside;
     tagged = h.tagged;

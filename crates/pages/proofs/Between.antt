@@ -1,5 +1,5 @@
 -- Between the pager and the pages: what the pager answers, and what holds at each place of the frames.
-use Rattle.std.proofs.Common.{◌≡◌, ℕ, ◌+◌, ◌-◌, ◌<◌, ◌≤◌, Bool, true, false, ◌⊎◌, List, [], length, get_or, vec_items, sym, refl, ap, ◌∙◌, inl, inr, arith}
+use Rattle.std.proofs.Common.{◌≡◌, ℕ, ◌+◌, ◌-◌, ◌<◌, ◌≤◌, Bool, true, false, ◌⊎◌, Some, None, List, [], length, get_or, vec_items, sym, refl, ap, ◌∙◌, inl, inr, arith}
 use Rattle.device.specs.Device.{With, and}
 use Rattle.device.specs.Layers.{Place, down, below, raised, lifting, rests, begun, midst}
 use Rattle.device.specs.declared.Never.{Never}
@@ -9,7 +9,7 @@ use Rattle.pager.specs.Model as low
 use Rattle.pager.specs.declared.state.Call.{Call}
 use Rattle.pager.specs.declared.state.Call.TheVariants as call
 use Rattle.pager.specs.declared.state.Reply.{Reply}
-use Rattle.pager.specs.declared.state.Reply.TheVariants as reply
+use Rattle.pager.specs.declared.state.Reply.TheVariants.{Page, Done, NoRoom, Found, Outside}
 use Rattle.pages.specs.Layer.{frame_of, tg, st, fr, given, Same}
 use Rattle.pages.specs.Model.{Pages, put_page}
 use Rattle.pages.specs.declared.frames.PageCall.{PageCall}
@@ -17,7 +17,7 @@ use Rattle.pages.specs.declared.frames.PageCall.TheVariants.{Get, Put, Vacant, C
 use Rattle.pages.specs.declared.frames.Doing.{Doing}
 use Rattle.pages.specs.declared.frames.Doing.TheVariants.{Rising, Resting, Asked, Short, Owning, Evicting, Clearing, Making, Fetching, Searching, Flushing, Committing, Undoing}
 use Rattle.pages.specs.declared.frames.Frames.{Frames}
-use Rattle.pages.proofs.Agree.{Core, Cache, None, Down}
+use Rattle.pages.proofs.Agree.{Core, Cache, NoPage, Down}
 
 -- WHAT THE PAGER ANSWERS
 module _ (N S : ℕ) where
@@ -49,7 +49,7 @@ module _ (N S : ℕ) where
   put_of _ _ _ _ _ i n e g (low.full p b y s f x) = absurd (never-bool (sym g ∙ x.wants))
 
   pub clear_of : (p : ℕ) (b : List ℕ) (s : Held) (r : With Reply) (u : Held) → length b ≡ 4096 → blank b ≡ true → low.Replies N S (and (call.Put p) b) s r u →
-      ((r.it ≡ reply.Outside) × (N ≤ p) × (u ≡ s)) ⊎ ((r.it ≡ reply.Done) × (p < N) × (u ≡ cleared p s))
+      ((r.it ≡ Outside) × (N ≤ p) × (u ≡ s)) ⊎ ((r.it ≡ Done) × (p < N) × (u ≡ cleared p s))
   clear_of _ _ _ _ _ n e (low.puts p b y s l m f) = absurd (never-bool (sym e ∙ f))
   clear_of _ _ _ _ _ n e (low.clears p b y s l m f) = inr (refl, l, refl)
   clear_of _ _ _ _ _ n e (low.puts_none p b y s l) = inl (refl, l, refl)
@@ -57,37 +57,37 @@ module _ (N S : ℕ) where
   clear_of _ _ _ _ _ n e (low.full p b y s f x) = absurd (never-bool (sym e ∙ f))
 
   pub give-of : (p : ℕ) (b : List ℕ) (s : Held) (r : With Reply) (u : Held) → low.Replies N S (and (call.Give p) b) s r u →
-      ((r.it ≡ reply.Outside) × (N ≤ p) × (u ≡ s)) ⊎ ((r.it ≡ reply.NoRoom) × Crowded N S p s × (u ≡ s)) ⊎ ((r.it ≡ reply.Done) × (p < N) × ((v : List ℕ) × (u ≡ changed p v s)))
+      ((r.it ≡ Outside) × (N ≤ p) × (u ≡ s)) ⊎ ((r.it ≡ NoRoom) × Crowded N S p s × (u ≡ s)) ⊎ ((r.it ≡ Done) × (p < N) × ((v : List ℕ) × (u ≡ changed p v s)))
   give-of _ _ _ _ _ (low.lends p b v y s l) = inr (inr (refl, l, (v, refl)))
   give-of _ _ _ _ _ (low.lends_none p b y s l) = inl (refl, l, refl)
   give-of _ _ _ _ _ (low.lends_full p b y s x) = inr (inl (refl, x, refl))
 
   pub get-of : (p : ℕ) (b : List ℕ) (s : Held) (r : With Reply) (u : Held) → low.Replies N S (and (call.Get p) b) s r u →
-      ((r.it ≡ reply.Outside) × (N ≤ p) × (u ≡ s)) ⊎ ((r.it ≡ reply.Page) × (p < N) × (r.bytes ≡ s.now p) × (u ≡ s))
+      ((r.it ≡ Outside) × (N ≤ p) × (u ≡ s)) ⊎ ((r.it ≡ Page) × (p < N) × (r.bytes ≡ s.now p) × (u ≡ s))
   get-of _ _ _ _ _ (low.gets p b s l) = inr (refl, l, refl, refl)
   get-of _ _ _ _ _ (low.gets_none p b y s l) = inl (refl, l, refl)
 
-  pub record Found (p q : ℕ) (s : Held) : Type 0 where
+  pub record First (p q : ℕ) (s : Held) : Type 0 where
     pub from : p ≤ q
     pub inside : q < N
     pub none : s.has q ≡ false
     pub least : (k : ℕ) → p ≤ k → k < q → s.has k ≡ true
 
   pub vacant-of : (p : ℕ) (b : List ℕ) (s : Held) (r : With Reply) (u : Held) → low.Replies N S (and (call.Vacant p) b) s r u →
-      ((q : ℕ) × (r.it ≡ reply.At q) × Found p q s × (u ≡ s)) ⊎ ((r.it ≡ reply.Nowhere) × ((k : ℕ) → p ≤ k → k < N → s.has k ≡ true) × (u ≡ s))
+      ((q : ℕ) × (r.it ≡ Found (Some q)) × First p q s × (u ≡ s)) ⊎ ((r.it ≡ Found None) × ((k : ℕ) → p ≤ k → k < N → s.has k ≡ true) × (u ≡ s))
   vacant-of _ _ _ _ _ (low.finds p q b y s k l e f) = inl (q, refl, record { from = k; inside = l; none = e; least = f }, refl)
   vacant-of _ _ _ _ _ (low.finds_none p b y s f) = inr (refl, f, refl)
 
-  pub commit-of : (b : List ℕ) (s : Held) (r : With Reply) (u : Held) → low.Replies N S (and call.Commit b) s r u → (r.it ≡ reply.Done) × (u ≡ committed s)
+  pub commit-of : (b : List ℕ) (s : Held) (r : With Reply) (u : Held) → low.Replies N S (and call.Commit b) s r u → (r.it ≡ Done) × (u ≡ committed s)
   commit-of _ _ _ _ (low.commits b y s) = (refl, refl)
 
-  pub undo-of : (b : List ℕ) (s : Held) (r : With Reply) (u : Held) → low.Replies N S (and call.Undo b) s r u → (r.it ≡ reply.Done) × (u ≡ undone s)
+  pub undo-of : (b : List ℕ) (s : Held) (r : With Reply) (u : Held) → low.Replies N S (and call.Undo b) s r u → (r.it ≡ Done) × (u ≡ undone s)
   undo-of _ _ _ _ (low.undoes b y s) = (refl, refl)
 
   -- THE INVARIANT
   pub record Of (a : Frames) (s : Held) (t : Pages) : Type 0 where
     pub core : Core N s t
-    pub cache : Cache N (None N) (tg a) (st a) (fr a) s t
+    pub cache : Cache N (NoPage N) (tg a) (st a) (fr a) s t
 
   pub record Empty (a : Frames) : Type 0 where
     pub none : (f : ℕ) → tg a f ≡ 0
@@ -222,7 +222,7 @@ module _ (N S : ℕ) where
       cache-same E (tg a) (tg b) (st a) (st b) (fr a) (fr b) s t (ap (λ v f. get_or (vec_items v) f 0) e.tags) (ap (λ v f. get_or (vec_items v) f false) e.stale) (ap (λ v f. get_or (vec_items v) f []) e.rows) h
 
   pub same_of : (a b : Frames) (s : Held) (t : Pages) → Same a b → Of a s t → Of b s t
-  same_of a b s t e h = record { core = h.core; cache = same-cache (None N) a b s t e h.cache }
+  same_of a b s t e h = record { core = h.core; cache = same-cache (NoPage N) a b s t e h.cache }
 
   pub same_tag : (a b : Frames) (f : ℕ) → Same a b → tg b f ≡ tg a f
   same_tag a b f e = ap (λ v. get_or (vec_items v) f 0) e.tags

@@ -17,7 +17,7 @@ use Rattle.pages.specs.Layer.{Turn, frame_of, tg, st, fr, Goes, Starts, TakenBy,
 use Rattle.pages.specs.Model.{Pages, blank_pages, keep, drop, Replies, commits, pages_judge}
 use Rattle.pages.specs.declared.frames.PageCall.{PageCall}
 use Rattle.pages.specs.declared.frames.PageCall.TheVariants.{Get, Put, Vacant, Commit, Undo}
-use Rattle.pages.specs.declared.frames.PageReply.TheVariants.{Done}
+use Rattle.pager.specs.declared.state.Reply.TheVariants.{Done}
 use Rattle.pages.specs.declared.frames.Doing.{Doing}
 use Rattle.pages.specs.declared.frames.Doing.TheVariants.{Rising, Resting, Asked, Short, Owning, Evicting, Clearing, Making, Fetching, Searching, Flushing, Committing, Undoing}
 use Rattle.pages.specs.declared.frames.Frames.{Frames}

@@ -15,14 +15,12 @@ use Rattle.pager.specs.declared.state.Pager.{Pager}
 use Rattle.pager.specs.declared.state.Call.{Call}
 use Rattle.pager.specs.declared.state.Call.TheVariants as call
 use Rattle.pager.specs.declared.state.Reply.{Reply}
-use Rattle.pager.specs.declared.state.Reply.TheVariants as reply
+use Rattle.pager.specs.declared.state.Reply.TheVariants.{Page, Done, NoRoom, Found, Outside}
 use Rattle.pager.proofs.Stands.{pager-whole}
-use Rattle.pages.specs.Layer.{Turn, reply_of, frame_of, tg, st, given, GetBy, PutBy, FlushOn, CallStarts, Starts, OwnBy, Hears, frames_layer}
+use Rattle.pages.specs.Layer.{Turn, frame_of, tg, st, given, GetBy, PutBy, FlushOn, CallStarts, Starts, OwnBy, Hears, frames_layer}
 use Rattle.pages.specs.Model.{pages_judge, PagesWhole, RoomStands, Memory, Takings}
 use Rattle.pages.specs.declared.frames.PageCall.{PageCall}
 use Rattle.pages.specs.declared.frames.PageCall.TheVariants.{Get, Put, Vacant, Commit, Undo}
-use Rattle.pages.specs.declared.frames.PageReply.{PageReply}
-use Rattle.pages.specs.declared.frames.PageReply.TheVariants.{Page, Done, NoRoom, At, Nowhere, Outside}
 use Rattle.pages.specs.declared.frames.Doing.{Doing}
 use Rattle.pages.specs.declared.frames.Doing.TheVariants.{Rising, Resting, Asked, Short, Owning, Evicting, Clearing, Making, Fetching, Searching, Flushing, Committing, Undoing}
 use Rattle.pages.specs.declared.frames.Frames.{Frames}
@@ -53,7 +51,7 @@ module _ (a b : Frames) (x : Turn) (n : ℕ) where
   calls : (k : Call) (d : Doing) → x ≡ next.Call k → b.doing ≡ d → soon d < n → left (after x) b < n
   calls k d e f h = rw e (subst (λ z. soon z < n) (sym f) h)
 
-  gives : (y : PageReply) → x ≡ next.Give y → 0 < n → left (after x) b < n
+  gives : (y : Reply) → x ≡ next.Give y → 0 < n → left (after x) b < n
   gives y e h = rw e h
 
   flushes : (i : ℕ) → FlushOn i x b → 2 ≤ n → (i < 128 → 2 + (128 - i) < n) → left (after x) b < n
@@ -99,34 +97,31 @@ module _ (a b : Frames) (x : Turn) (n : ℕ) where
   own-by false false p m y = gives Done y.turn (omega arith)
 
 hear-at : (a b : Frames) (x : Turn) (d : Doing) (r : Reply) (v : List ℕ) → Hears d r v a x b → left (after x) b < soon d
-hear-at a b x (Owning p) reply.Done v y = own-by a b x 3 y.hit (st a (frame_of p)) p (omega arith) y.by
-hear-at a b x (Owning p) reply.Page v y = gives a b x 3 Page y.turn (omega arith)
-hear-at a b x (Owning p) reply.NoRoom v y = gives a b x 3 NoRoom y.turn (omega arith)
-hear-at a b x (Owning p) (reply.At q) v y = gives a b x 3 (At q) y.turn (omega arith)
-hear-at a b x (Owning p) reply.Nowhere v y = gives a b x 3 Nowhere y.turn (omega arith)
-hear-at a b x (Owning p) reply.Outside v y = gives a b x 3 Outside y.turn (omega arith)
+hear-at a b x (Owning p) Done v y = own-by a b x 3 y.hit (st a (frame_of p)) p (omega arith) y.by
+hear-at a b x (Owning p) Page v y = gives a b x 3 Page y.turn (omega arith)
+hear-at a b x (Owning p) NoRoom v y = gives a b x 3 NoRoom y.turn (omega arith)
+hear-at a b x (Owning p) (Found q) v y = gives a b x 3 (Found q) y.turn (omega arith)
+hear-at a b x (Owning p) Outside v y = gives a b x 3 Outside y.turn (omega arith)
 hear-at a b x (Evicting p) r v y = gives a b x 1 Done y.turn (omega arith)
-hear-at a b x (Clearing p) reply.Done v y = gives a b x 1 Done y.turn (omega arith)
-hear-at a b x (Clearing p) reply.Page v y = gives a b x 1 Page y.turn (omega arith)
-hear-at a b x (Clearing p) reply.NoRoom v y = gives a b x 1 NoRoom y.turn (omega arith)
-hear-at a b x (Clearing p) (reply.At q) v y = gives a b x 1 (At q) y.turn (omega arith)
-hear-at a b x (Clearing p) reply.Nowhere v y = gives a b x 1 Nowhere y.turn (omega arith)
-hear-at a b x (Clearing p) reply.Outside v y = gives a b x 1 Outside y.turn (omega arith)
+hear-at a b x (Clearing p) Done v y = gives a b x 1 Done y.turn (omega arith)
+hear-at a b x (Clearing p) Page v y = gives a b x 1 Page y.turn (omega arith)
+hear-at a b x (Clearing p) NoRoom v y = gives a b x 1 NoRoom y.turn (omega arith)
+hear-at a b x (Clearing p) (Found q) v y = gives a b x 1 (Found q) y.turn (omega arith)
+hear-at a b x (Clearing p) Outside v y = gives a b x 1 Outside y.turn (omega arith)
 hear-at a b x (Making p) r v y = calls a b x 3 (call.Get p) (Fetching p) y.turn y.doing (omega arith)
-hear-at a b x (Fetching p) reply.Page v y = gives a b x 1 y.answers.0 y.answers.1 (omega arith)
-hear-at a b x (Fetching p) reply.Done v y = gives a b x 1 Done y.turn (omega arith)
-hear-at a b x (Fetching p) reply.NoRoom v y = gives a b x 1 NoRoom y.turn (omega arith)
-hear-at a b x (Fetching p) (reply.At q) v y = gives a b x 1 (At q) y.turn (omega arith)
-hear-at a b x (Fetching p) reply.Nowhere v y = gives a b x 1 Nowhere y.turn (omega arith)
-hear-at a b x (Fetching p) reply.Outside v y = gives a b x 1 Outside y.turn (omega arith)
+hear-at a b x (Fetching p) Page v y = gives a b x 1 y.answers.0 y.answers.1 (omega arith)
+hear-at a b x (Fetching p) Done v y = gives a b x 1 Done y.turn (omega arith)
+hear-at a b x (Fetching p) NoRoom v y = gives a b x 1 NoRoom y.turn (omega arith)
+hear-at a b x (Fetching p) (Found q) v y = gives a b x 1 (Found q) y.turn (omega arith)
+hear-at a b x (Fetching p) Outside v y = gives a b x 1 Outside y.turn (omega arith)
 hear-at a b x (Flushing i) r v y = flushes a b x (2 + (128 - i)) (i + 1) y.on (omega arith) (λ l. omega arith)
-hear-at a b x Searching r v y = gives a b x 1 (reply_of r) y.turn (omega arith)
-hear-at a b x Committing r v y = gives a b x 1 (reply_of r) y.turn (omega arith)
-hear-at a b x Undoing r v y = gives a b x 1 (reply_of r) y.turn (omega arith)
-hear-at a b x Rising r v y = gives a b x 1 (reply_of r) y.turn (omega arith)
-hear-at a b x Resting r v y = gives a b x 1 (reply_of r) y.turn (omega arith)
-hear-at a b x (Asked c) r v y = gives a b x 1 (reply_of r) y.turn (omega arith)
-hear-at a b x Short r v y = gives a b x 1 (reply_of r) y.turn (omega arith)
+hear-at a b x Searching r v y = gives a b x 1 r y.turn (omega arith)
+hear-at a b x Committing r v y = gives a b x 1 r y.turn (omega arith)
+hear-at a b x Undoing r v y = gives a b x 1 r y.turn (omega arith)
+hear-at a b x Rising r v y = gives a b x 1 r y.turn (omega arith)
+hear-at a b x Resting r v y = gives a b x 1 r y.turn (omega arith)
+hear-at a b x (Asked c) r v y = gives a b x 1 r y.turn (omega arith)
+hear-at a b x Short r v y = gives a b x 1 r y.turn (omega arith)
 
 frames-end : (size : ℕ) → EndsAbove frames_layer size
 frames-end size w a g =
@@ -134,7 +129,7 @@ frames-end size w a g =
 
 pub pages-whole : PagesWhole
 pages-whole =
-    layers-compose Pager Call Never Reply Frames PageCall Never PageReply pager_judge pages_judge pager_engine frames_layer pager-whole
+    layers-compose Pager Call Never Reply Frames PageCall Never Reply pager_judge pages_judge pager_engine frames_layer pager-whole
     (record { keeps = λ size z. keeps-above (pager_judge size) (pages_judge size) frames_layer size (stands size z); ends = λ size z. frames-end size })
 
 pub room-stands : RoomStands

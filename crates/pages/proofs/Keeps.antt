@@ -1,5 +1,5 @@
 -- The frames keep to the model of pages above any store that keeps to the pager's, and so on the device.
-use Rattle.std.proofs.Common.{◌≡◌, ℕ, ◌+◌, ◌-◌, ◌<◌, ◌≤◌, Bool, true, false, cond, eqb, leb, ◌⊎◌, List, [], length, get_or, vec_items, sym, refl, ap, ◌∙◌, subst, inl, inr, arith, get_or-set_other, get_or-set_same, eqb-true}
+use Rattle.std.proofs.Common.{◌≡◌, ℕ, ◌+◌, ◌-◌, ◌<◌, ◌≤◌, Bool, true, false, cond, eqb, leb, ◌⊎◌, Some, None, List, [], length, get_or, vec_items, sym, refl, ap, ◌∙◌, subst, inl, inr, arith, get_or-set_other, get_or-set_same, eqb-true}
 use Rattle.std.proofs.lemmas.Bool.{leb-true, leb-false}
 use borrow.Author.Tests.{eqb-false}
 use Rattle.device.specs.Device.{With, and, Sized}
@@ -14,19 +14,17 @@ use Rattle.pager.specs.Model as low
 use Rattle.pager.specs.declared.state.Call.{Call}
 use Rattle.pager.specs.declared.state.Call.TheVariants as call
 use Rattle.pager.specs.declared.state.Reply.{Reply}
-use Rattle.pager.specs.declared.state.Reply.TheVariants as reply
+use Rattle.pager.specs.declared.state.Reply.TheVariants.{Page, Done, NoRoom, Found, Outside}
 use Rattle.pages.specs.Layer.{Turn, frame_of, tg, st, fr, given, send_of, Refills, Vacates, Stores, Hit, GetBy, PutBy, FlushOn, CallStarts, Starts, OwnBy, Told, ClearBy, Made, Flushed, Hears, frames_layer}
 use Rattle.pages.specs.Model.{Pages, put_page, keep, drop, Replies, gets, gets_none, puts, full, puts_none, puts_short, finds, finds_none, commits, undoes, pages_judge}
 use Rattle.pages.specs.declared.frames.PageCall.{PageCall}
 use Rattle.pages.specs.declared.frames.PageCall.TheVariants.{Get, Put, Vacant, Commit, Undo}
-use Rattle.pages.specs.declared.frames.PageReply.{PageReply}
-use Rattle.pages.specs.declared.frames.PageReply.TheVariants.{Page, Done, NoRoom, At, Nowhere, Outside}
 use Rattle.pages.specs.declared.frames.Doing.{Doing}
 use Rattle.pages.specs.declared.frames.Doing.TheVariants.{Rising, Resting, Asked, Short, Owning, Evicting, Clearing, Making, Fetching, Searching, Flushing, Committing, Undoing}
 use Rattle.pages.specs.declared.frames.Frames.{Frames}
-use Rattle.pages.proofs.Agree.{not-true, not-false, at_same, at_other, Core, Cache, None, cache-but, cache-fill, cache-leave, cache-plain, cache-weak, cache-wrote, wrote-holds, wrote-own, own-full, core-wrote, core-put, core-again, core-clear, blank-same, based, down-of, cache-empty, clean-same, core-keep, cache-keep, room}
+use Rattle.pages.proofs.Agree.{not-true, not-false, at_same, at_other, Core, Cache, NoPage, cache-but, cache-fill, cache-leave, cache-plain, cache-weak, cache-wrote, wrote-holds, wrote-own, own-full, core-wrote, core-put, core-again, core-clear, blank-same, based, down-of, cache-empty, clean-same, core-keep, cache-keep, room}
 use Rattle.pages.proofs.Cuts.{raised_at, taken_at, blank-down, Lost, amid-based, lost, done_at}
-use Rattle.pages.proofs.Between.{never-bool, put_of, clear_of, give-of, get-of, Found, vacant-of, commit-of, undo-of, Of, Putting, Sending, InOwning, InEvicting, InClearing, InMaking, InFetching, InSearching, InFlushing, InCommitting, InUndoing, Amid, Known, BegunAt, Inv, cache-same, same-cache, same_of, same_tag, same_flag}
+use Rattle.pages.proofs.Between.{never-bool, put_of, clear_of, give-of, get-of, First, vacant-of, commit-of, undo-of, Of, Putting, Sending, InOwning, InEvicting, InClearing, InMaking, InFetching, InSearching, InFlushing, InCommitting, InUndoing, Amid, Known, BegunAt, Inv, cache-same, same-cache, same_of, same_tag, same_flag}
 
 -- ON A DEVICE OF SO MANY SECTORS
 module _ (size : ℕ) (sized : Sized size) where
@@ -67,7 +65,7 @@ module _ (size : ℕ) (sized : Sized size) where
   vacated-flag p a b x = ap (λ (v : List Bool). get_or v (frame_of p) false) x.stale ∙ get_or-set_same (vec_items a.stale) (frame_of p) false false (omega (arith, a.slen, a.stale.ok.0))
 
   vacated : (p : ℕ) (a b : Frames) (z : ℕ → Bool) (s : Held) (t : Pages) → Vacates p a b → ((f : ℕ) → (f ≡ frame_of p → ⊥) → z f ≡ st a f) → (p < P → s.now p ≡ t.now p) → (z (frame_of p) ≡ true → tg a (frame_of p) ≡ p + 1) →
-      Cache P (λ q. q ≡ p) (tg a) z (fr a) s t → Cache P (None P) (tg b) (st b) (fr b) s t
+      Cache P (λ q. q ≡ p) (tg a) z (fr a) s t → Cache P (NoPage P) (tg b) (st b) (fr b) s t
   vacated p a b z s t x zs same old h =
       cache-leave P p (tg a) (tg b) z (st b) (fr a) (fr b) s t
       (λ f n. ap (λ (v : List ℕ). get_or v f 0) x.tags ∙ get_or-set_other (vec_items a.tags) (frame_of p) f 0 0 n)
@@ -79,7 +77,7 @@ module _ (size : ℕ) (sized : Sized size) where
     Leads : Held → Type 0
     Leads u = Led (pager_judge size) (pages_judge size) frames_layer (Inv P S) c us x b u t
 
-    give : (u : Held) (e : PageCall) (y : PageReply) (t' : Pages) → e ≡ c.it → x ≡ next.Give y → Replies size (and e c.bytes) t (and y (fr b b.at)) t' → Of P S b u t' → Leads u
+    give : (u : Held) (e : PageCall) (y : Reply) (t' : Pages) → e ≡ c.it → x ≡ next.Give y → Replies size (and e c.bytes) t (and y (fr b b.at)) t' → Of P S b u t' → Leads u
     unfolding Leads
     give u e y t' k q p o = rw q (t', subst (λ z. Replies size (and z c.bytes) t (and y (fr b b.at)) t') k p, o)
 
@@ -194,7 +192,7 @@ module _ (size : ℕ) (sized : Sized size) where
 
     -- WHEN THE PAGER HAS ANSWERED
     -- it says no, or what it found
-    told_none : (p : ℕ) (s u : Held) (r : With Reply) → Put p ≡ c.it → pages size ≤ p → u ≡ s → Of P S a s t → Told reply.Outside a x b → Leads u
+    told_none : (p : ℕ) (s u : Held) (r : With Reply) → Put p ≡ c.it → pages size ≤ p → u ≡ s → Of P S a s t → Told Outside a x b → Leads u
     told_none p s u r e l k o y = subst Leads (sym k) (give s (Put p) Outside t e y.turn (puts_none p c.bytes (fr b b.at) t l) (same_of P S a b s t y.same o))
 
     own-by : (p : ℕ) (s : Held) (v : List ℕ) (h z : Bool) → p < P → Putting P S p c a → Of P S a s t → Hit p a h → st a (frame_of p) ≡ z → OwnBy h z p a x b → Leads (changed p v s)
@@ -229,14 +227,14 @@ module _ (size : ℕ) (sized : Sized size) where
         hears : (k : Reply) → r.it ≡ k → Hears (Owning p) k r.bytes a x b
         hears k e = subst (λ z. Hears (Owning p) z r.bytes a x b) e q
 
-        by : ((r.it ≡ reply.Outside) × (P ≤ p) × (u ≡ s)) ⊎ ((r.it ≡ reply.NoRoom) × Crowded P S p s × (u ≡ s)) ⊎ ((r.it ≡ reply.Done) × (p < P) × ((v : List ℕ) × (u ≡ changed p v s))) → Leads u
-        by (inl e) = told_none p s u r (sym h.putting.put) e.1 e.2 h.of (hears reply.Outside e.0)
+        by : ((r.it ≡ Outside) × (P ≤ p) × (u ≡ s)) ⊎ ((r.it ≡ NoRoom) × Crowded P S p s × (u ≡ s)) ⊎ ((r.it ≡ Done) × (p < P) × ((v : List ℕ) × (u ≡ changed p v s))) → Leads u
+        by (inl e) = told_none p s u r (sym h.putting.put) e.1 e.2 h.of (hears Outside e.0)
         by (inr (inl e)) =
-            let k = hears reply.NoRoom e.0 in
+            let k = hears NoRoom e.0 in
             subst Leads (sym e.2) (give s (Put p) NoRoom t (sym h.putting.put) k.turn
             (full p c.bytes (fr b b.at) t e.1.inside h.putting.long (room P S p c.bytes s t e.1 h.putting.full h.of.core)) (same_of P S a b s t k.same h.of))
         by (inr (inr e)) =
-            let k = hears reply.Done e.0 in
+            let k = hears Done e.0 in
             subst Leads (sym e.2.1) (own-by p s e.2.0 k.hit (st a (frame_of p)) e.1 h.putting h.of k.hits refl k.by)
 
     -- a stale frame was written back
@@ -298,14 +296,14 @@ module _ (size : ℕ) (sized : Sized size) where
         cache : Cache P (λ q. q ≡ p) (tg a) (st a) (fr a) (cleared p s) (put_page p c.bytes t)
         cache = cache-but P p (tg a) (st a) (fr a) s (cleared p s) t (put_page p c.bytes t) (record { given = λ q n. at_other p q false s.given n; below = λ q n. at_other p q blank_page s.now n; above = λ q n. at_other p q c.bytes t.now n }) h.of.cache
 
-        leaves : (i : Bool) → Hit p a i → ClearBy i p a b → Cache P (None P) (tg b) (st b) (fr b) (cleared p s) (put_page p c.bytes t)
+        leaves : (i : Bool) → Hit p a i → ClearBy i p a b → Cache P (NoPage P) (tg b) (st b) (fr b) (cleared p s) (put_page p c.bytes t)
         leaves true k v = vacated p a b (st a) (cleared p s) (put_page p c.bytes t) v (λ f n. refl) (λ _. same) (λ _. k) cache
-        leaves false k v = same-cache P S (None P) a b (cleared p s) (put_page p c.bytes t) v (cache-plain P p (tg a) (st a) (fr a) (cleared p s) (put_page p c.bytes t) k (λ _. same) cache)
+        leaves false k v = same-cache P S (NoPage P) a b (cleared p s) (put_page p c.bytes t) v (cache-plain P p (tg a) (st a) (fr a) (cleared p s) (put_page p c.bytes t) k (λ _. same) cache)
 
-        by : ((r.it ≡ reply.Outside) × (P ≤ p) × (u ≡ s)) ⊎ ((r.it ≡ reply.Done) × (p < P) × (u ≡ cleared p s)) → Leads u
-        by (inl e) = told_none p s u r (sym h.put) e.1 e.2 h.of (hears reply.Outside e.0)
+        by : ((r.it ≡ Outside) × (P ≤ p) × (u ≡ s)) ⊎ ((r.it ≡ Done) × (p < P) × (u ≡ cleared p s)) → Leads u
+        by (inl e) = told_none p s u r (sym h.put) e.1 e.2 h.of (hears Outside e.0)
         by (inr e) =
-            let k = hears reply.Done e.0 in
+            let k = hears Done e.0 in
             subst Leads (sym e.2) (give (cleared p s) (Put p) Done (put_page p c.bytes t) (sym h.put) k.turn (puts p c.bytes (fr b b.at) t e.1 h.long)
             (record { core = core-clear P s t p c.bytes h.of.core h.long h.blank; cache = leaves k.hit k.hits k.by }))
 
@@ -314,7 +312,7 @@ module _ (size : ℕ) (sized : Sized size) where
         let f = frame_of p in
         let o = h.of in
         let z : ℕ → Bool = updated f false (st a) in
-        let cache : Cache P (None P) (tg a) z (fr a) u t = back-cache (None P) f d s u r t h.sending o.core o.cache (λ n. n) y z (at_same f f false (st a) refl) (λ k n. at_other f k false (st a) n) in
+        let cache : Cache P (NoPage P) (tg a) z (fr a) u t = back-cache (NoPage P) f d s u r t h.sending o.core o.cache (λ n. n) y z (at_same f f false (st a) refl) (λ k n. at_other f k false (st a) n) in
         let down : z f ≡ false = at_same f f false (st a) refl in
         let e : tg b f ≡ 0 = vacated-tag p a b q.vacates in
         ask u (call.Get p) (Fetching p) q.turn q.doing (record {
@@ -323,7 +321,7 @@ module _ (size : ℕ) (sized : Sized size) where
           other = λ k. omega arith;
           clean = vacated-flag p a b q.vacates;
           of = record {
-            core = back-core (None P) f d s u r t h.sending o.core o.cache (λ n. n) y;
+            core = back-core (NoPage P) f d s u r t h.sending o.core o.cache (λ n. n) y;
             cache = vacated p a b z u t q.vacates (λ k n. at_other f k false (st a) n) (λ l. cache.cold p l (λ n. n) (λ i j. never-bool P S (sym j ∙ down))) (λ j. absurd (never-bool P S (sym j ∙ down))) (cache-weak P p (tg a) z (fr a) u t cache);
           };
         })
@@ -334,12 +332,12 @@ module _ (size : ℕ) (sized : Sized size) where
         hears : (k : Reply) → r.it ≡ k → Hears (Fetching p) k r.bytes a x b
         hears k e = subst (λ z. Hears (Fetching p) z r.bytes a x b) e q
 
-        by : ((r.it ≡ reply.Outside) × (P ≤ p) × (u ≡ s)) ⊎ ((r.it ≡ reply.Page) × (p < P) × (r.bytes ≡ s.now p) × (u ≡ s)) → Leads u
+        by : ((r.it ≡ Outside) × (P ≤ p) × (u ≡ s)) ⊎ ((r.it ≡ Page) × (p < P) × (r.bytes ≡ s.now p) × (u ≡ s)) → Leads u
         by (inl e) =
-            let k = hears reply.Outside e.0 in
+            let k = hears Outside e.0 in
             subst Leads (sym e.2) (give s (Get p) Outside t (sym h.get) k.turn (gets_none p c.bytes (fr b b.at) t e.1) (same_of P S a b s t k.same h.of))
         by (inr e) =
-            let k = hears reply.Page e.0 in
+            let k = hears Page e.0 in
             let l = e.1 in
             let same : s.now p ≡ t.now p = h.of.cache.cold p l (λ n. n) (λ i j. h.other i) in
             let is : r.bytes ≡ t.now p = e.2 ∙ same in
@@ -357,16 +355,16 @@ module _ (size : ℕ) (sized : Sized size) where
     hear-searching : (d : With Call) (s u : Held) (r : With Reply) → InSearching P S c d a s t → low.Replies P S d s r u → Told r.it a x b → Leads u
     hear-searching d s u r h y q = by (vacant-of P S h.page d.bytes s r u (subst (λ k. low.Replies P S (and k d.bytes) s r u) h.call y))
       where
-        by : ((k : ℕ) × (r.it ≡ reply.At k) × Found P S h.page k s × (u ≡ s)) ⊎ ((r.it ≡ reply.Nowhere) × ((k : ℕ) → h.page ≤ k → k < P → s.has k ≡ true) × (u ≡ s)) → Leads u
+        by : ((k : ℕ) × (r.it ≡ Found (Some k)) × First P S h.page k s × (u ≡ s)) ⊎ ((r.it ≡ Found None) × ((k : ℕ) → h.page ≤ k → k < P → s.has k ≡ true) × (u ≡ s)) → Leads u
         by (inl e) =
-            let k : Told (reply.At e.0) a x b = subst (λ z. Told z a x b) e.1 q in
+            let k : Told (Found (Some e.0)) a x b = subst (λ z. Told z a x b) e.1 q in
             let f = e.2 in
-            subst Leads (sym e.3) (give s (Vacant h.page) (At e.0) t (sym h.vacant) k.turn (finds h.page e.0 c.bytes (fr b b.at) t f.from f.inside
+            subst Leads (sym e.3) (give s (Vacant h.page) (Found (Some e.0)) t (sym h.vacant) k.turn (finds h.page e.0 c.bytes (fr b b.at) t f.from f.inside
             (not-false (blank (t.now e.0)) (sym (h.of.core.has e.0 f.inside) ∙ f.none))
             (λ j m n. not-true (blank (t.now j)) (sym (h.of.core.has j (omega (arith, f.inside))) ∙ f.least j m n))) (same_of P S a b s t k.same h.of))
         by (inr e) =
-            let k : Told reply.Nowhere a x b = subst (λ z. Told z a x b) e.0 q in
-            subst Leads (sym e.2) (give s (Vacant h.page) Nowhere t (sym h.vacant) k.turn (finds_none h.page c.bytes (fr b b.at) t (λ j m n. not-true (blank (t.now j)) (sym (h.of.core.has j n) ∙ e.1 j m n))) (same_of P S a b s t k.same h.of))
+            let k : Told (Found None) a x b = subst (λ z. Told z a x b) e.0 q in
+            subst Leads (sym e.2) (give s (Vacant h.page) (Found None) t (sym h.vacant) k.turn (finds_none h.page c.bytes (fr b b.at) t (λ j m n. not-true (blank (t.now j)) (sym (h.of.core.has j n) ∙ e.1 j m n))) (same_of P S a b s t k.same h.of))
 
     hear-flushing : (i : ℕ) (d : With Call) (s u : Held) (r : With Reply) → InFlushing P S i c d a s t → low.Replies P S d s r u → Flushed i a x b → Leads u
     hear-flushing i d s u r h y q =
@@ -375,8 +373,8 @@ module _ (size : ℕ) (sized : Sized size) where
         let here : st b i ≡ false = ap (λ (v : List Bool). get_or v i false) z ∙ get_or-set_same (vec_items a.stale) i false false (omega (arith, h.less, a.slen, a.stale.ok.0)) in
         let there : (k : ℕ) → (k ≡ i → ⊥) → st b k ≡ st a k = λ k n. ap (λ (v : List Bool). get_or v k false) z ∙ get_or-set_other (vec_items a.stale) i k false false n in
         flush-on (i + 1) u (sym h.commit) (λ k l. clean-by k l here there (eqb k i) refl) (record {
-          core = back-core (None P) i d s u r t h.sending o.core o.cache (λ n. n) y;
-          cache = cache-same P S (None P) (tg a) (tg b) (st b) (st b) (fr a) (fr b) u t (ap (λ v f. get_or (vec_items v) f 0) q.tags) refl (ap (λ v f. get_or (vec_items v) f []) q.rows) (back-cache (None P) i d s u r t h.sending o.core o.cache (λ n. n) y (st b) here there);
+          core = back-core (NoPage P) i d s u r t h.sending o.core o.cache (λ n. n) y;
+          cache = cache-same P S (NoPage P) (tg a) (tg b) (st b) (st b) (fr a) (fr b) u t (ap (λ v f. get_or (vec_items v) f 0) q.tags) refl (ap (λ v f. get_or (vec_items v) f []) q.rows) (back-cache (NoPage P) i d s u r t h.sending o.core o.cache (λ n. n) y (st b) here there);
         }) q.on
       where
         clean-by : (k : ℕ) → k < i + 1 → st b i ≡ false → ((k : ℕ) → (k ≡ i → ⊥) → st b k ≡ st a k) → (e : Bool) → eqb k i ≡ e → st b k ≡ false
@@ -386,7 +384,7 @@ module _ (size : ℕ) (sized : Sized size) where
     hear-committing : (d : With Call) (s u : Held) (r : With Reply) → InCommitting P S c d a s t → low.Replies P S d s r u → Told r.it a x b → Leads u
     hear-committing d s u r h y q =
         let (e, k) = commit-of P S d.bytes s r u (subst (λ k. low.Replies P S (and k d.bytes) s r u) h.call y) in
-        let w : Told reply.Done a x b = subst (λ z. Told z a x b) e q in
+        let w : Told Done a x b = subst (λ z. Told z a x b) e q in
         let o = h.of in
         subst Leads (sym k) (give (committed s) Commit Done (keep t) (sym h.commit) w.turn (commits c.bytes (fr b b.at) t) (same_of P S a b (committed s) (keep t) w.same (record {
           core = core-keep P s t o.core (clean-same P (tg a) (st a) (fr a) s t h.clean o.cache);
@@ -396,7 +394,7 @@ module _ (size : ℕ) (sized : Sized size) where
     hear-undoing : (d : With Call) (s u : Held) (r : With Reply) → InUndoing P S c d a s t → low.Replies P S d s r u → Told r.it a x b → Leads u
     hear-undoing d s u r h y q =
         let (e, k) = undo-of P S d.bytes s r u (subst (λ k. low.Replies P S (and k d.bytes) s r u) h.call y) in
-        let w : Told reply.Done a x b = subst (λ z. Told z a x b) e q in
+        let w : Told Done a x b = subst (λ z. Told z a x b) e q in
         let o = down-of P s t (based P s t h.core) in
         subst Leads (sym k) (give (undone s) Undo Done (drop t) (sym h.undo) w.turn (undoes c.bytes (fr b b.at) t) (same_of P S a b (undone s) (drop t) w.same (record {
           core = o.core;

@@ -1,5 +1,5 @@
 -- What the frames do, by what is under way.
-use Rattle.std.specs.Prelude.{◌≡◌, ℕ, ◌+◌, ◌-◌, ◌%◌, ◌<◌, ◌≤◌, Bool, true, false, ◌⊎◌, Option, MatchOption, List, [], length, vec_items, ◌≢◌, slice_index, slice_index_or, slice_set}
+use Rattle.std.specs.Prelude.{◌≡◌, ℕ, ◌+◌, ◌-◌, ◌%◌, ◌<◌, ◌≤◌, Bool, true, false, ◌⊎◌, Option, Some, None, MatchOption, List, [], length, vec_items, ◌≢◌, slice_index, slice_index_or, slice_set}
 use Rattle.octets.specs.Parts.{blank}
 use Rattle.device.specs.Device.{With}
 use Rattle.device.specs.Layers.{Layer}
@@ -9,25 +9,15 @@ use Rattle.device.specs.declared.Next.TheVariants as next
 use Rattle.pager.specs.declared.state.Call.{Call}
 use Rattle.pager.specs.declared.state.Call.TheVariants as call
 use Rattle.pager.specs.declared.state.Reply.{Reply}
-use Rattle.pager.specs.declared.state.Reply.TheVariants as reply
+use Rattle.pager.specs.declared.state.Reply.TheVariants.{Page, Done, NoRoom, Found, Outside}
 use Rattle.pages.specs.declared.frames.PageCall.{PageCall}
 use Rattle.pages.specs.declared.frames.PageCall.TheVariants.{Get, Put, Vacant, Commit, Undo}
-use Rattle.pages.specs.declared.frames.PageReply.{PageReply}
-use Rattle.pages.specs.declared.frames.PageReply.TheVariants.{Page, Done, NoRoom, At, Nowhere, Outside}
 use Rattle.pages.specs.declared.frames.Doing.{Doing}
 use Rattle.pages.specs.declared.frames.Doing.TheVariants.{Rising, Resting, Asked, Short, Owning, Evicting, Clearing, Making, Fetching, Searching, Flushing, Committing, Undoing}
 use Rattle.pages.specs.declared.frames.Frames.{Frames}
 
 abbrev pub Turn : Type 0
-Turn = Next Call Never PageReply
-
-abbrev pub reply_of : Reply → PageReply
-reply_of reply.Page = Page
-reply_of reply.Done = Done
-reply_of reply.NoRoom = NoRoom
-reply_of (reply.At n) = At n
-reply_of reply.Nowhere = Nowhere
-reply_of reply.Outside = Outside
+Turn = Next Call Never Reply
 
 -- the frame of a page
 abbrev pub frame_of : ℕ → ℕ
@@ -90,22 +80,26 @@ pub record Stores (p : ℕ) (m : Frames) (x : Turn) (n : Frames) : Type 0 where
   pub doing : n.doing ≡ Resting
   pub refills : p < 18446744073709551615 → Refills p (p + 1) true (given m) m n
 
--- the frame of page p is written back
-pub record WritesBack (p : ℕ) (d : Doing) (m : Frames) (x : Turn) (n : Frames) : Type 0 where
-  pub turn : x ≡ next.Call (call.Put (tg m (frame_of p) - 1))
+-- the frame f is written back
+pub record WritesBack (f : ℕ) (d : Doing) (m : Frames) (x : Turn) (n : Frames) : Type 0 where
+  pub turn : x ≡ next.Call (call.Put (tg m f - 1))
   pub doing : n.doing ≡ d
   pub same : Same m n
-  pub at : n.at ≡ frame_of p
+  pub at : n.at ≡ f
   pub page : n.page ≡ m.page
 
--- whether a page is in its frame, and whether its frame is stale
+-- the page in a frame, if there is one; whether a page is in its frame, and whether its frame is stale
+abbrev pub PageIn : ℕ → Frames → Option ℕ → Type 0
+PageIn f m None = tg m f ≡ 0
+PageIn f m (Some q) = tg m f ≡ q + 1
+
 abbrev pub Hit : ℕ → Frames → Bool → Type 0
 Hit p m true = tg m (frame_of p) ≡ p + 1
 Hit p m false = tg m (frame_of p) ≡ p + 1 → ⊥
 
 abbrev pub GetBy : Bool → Bool → ℕ → Frames → Turn → Frames → Type 0
 GetBy true s p m x n = Goes m x Resting (next.Give Page) n × (n.at ≡ frame_of p)
-GetBy false true p m x n = WritesBack p (Making p) m x n
+GetBy false true p m x n = WritesBack (frame_of p) (Making p) m x n
 GetBy false false p m x n = Goes m x (Fetching p) (next.Call (call.Get p)) n
 
 pub record GetStarts (p : ℕ) (m : Frames) (x : Turn) (n : Frames) : Type 0 where
@@ -175,7 +169,7 @@ Starts Undoing m x n = Goes m x Resting (next.Give Done) n
 
 abbrev pub OwnBy : Bool → Bool → ℕ → Frames → Turn → Frames → Type 0
 OwnBy true s p m x n = Stores p m x n
-OwnBy false true p m x n = WritesBack p (Evicting p) m x n
+OwnBy false true p m x n = WritesBack (frame_of p) (Evicting p) m x n
 OwnBy false false p m x n = Stores p m x n
 
 -- there is a slot for the page that is put
@@ -185,7 +179,7 @@ pub record Owns (p : ℕ) (m : Frames) (x : Turn) (n : Frames) : Type 0 where
   pub by : OwnBy hit (st m (frame_of p)) p m x n
 
 abbrev pub Told : Reply → Frames → Turn → Frames → Type 0
-Told r m x n = Goes m x Resting (next.Give (reply_of r)) n
+Told r m x n = Goes m x Resting (next.Give r) n
 
 -- a page that was put blank leaves its frame
 abbrev pub ClearBy : Bool → ℕ → Frames → Frames → Type 0
@@ -207,7 +201,7 @@ pub record Made (p : ℕ) (m : Frames) (x : Turn) (n : Frames) : Type 0 where
 -- a page has come, and is in its frame
 pub record Fetched (p : ℕ) (m : Frames) (b : List ℕ) (x : Turn) (n : Frames) : Type 0 where
   pub turn : length b ≡ 4096 → x ≡ next.Give Page
-  pub answers : (y : PageReply) × (x ≡ next.Give y)
+  pub answers : (y : Reply) × (x ≡ next.Give y)
   pub doing : n.doing ≡ Resting
   pub at : length b ≡ 4096 → n.at ≡ frame_of p
   pub refills : length b ≡ 4096 → p < 18446744073709551615 → Refills p (p + 1) false b m n
@@ -220,26 +214,23 @@ pub record Flushed (i : ℕ) (m : Frames) (x : Turn) (n : Frames) : Type 0 where
 
 -- the pager has answered
 abbrev pub Hears : Doing → Reply → List ℕ → Frames → Turn → Frames → Type 0
-Hears (Owning p) reply.Done b m x n = Owns p m x n
-Hears (Owning p) reply.Page b m x n = Told reply.Page m x n
-Hears (Owning p) reply.NoRoom b m x n = Told reply.NoRoom m x n
-Hears (Owning p) (reply.At q) b m x n = Told (reply.At q) m x n
-Hears (Owning p) reply.Nowhere b m x n = Told reply.Nowhere m x n
-Hears (Owning p) reply.Outside b m x n = Told reply.Outside m x n
+Hears (Owning p) Done b m x n = Owns p m x n
+Hears (Owning p) Page b m x n = Told Page m x n
+Hears (Owning p) NoRoom b m x n = Told NoRoom m x n
+Hears (Owning p) (Found q) b m x n = Told (Found q) m x n
+Hears (Owning p) Outside b m x n = Told Outside m x n
 Hears (Evicting p) r b m x n = Stores p m x n
-Hears (Clearing p) reply.Done b m x n = Cleared p m x n
-Hears (Clearing p) reply.Page b m x n = Told reply.Page m x n
-Hears (Clearing p) reply.NoRoom b m x n = Told reply.NoRoom m x n
-Hears (Clearing p) (reply.At q) b m x n = Told (reply.At q) m x n
-Hears (Clearing p) reply.Nowhere b m x n = Told reply.Nowhere m x n
-Hears (Clearing p) reply.Outside b m x n = Told reply.Outside m x n
+Hears (Clearing p) Done b m x n = Cleared p m x n
+Hears (Clearing p) Page b m x n = Told Page m x n
+Hears (Clearing p) NoRoom b m x n = Told NoRoom m x n
+Hears (Clearing p) (Found q) b m x n = Told (Found q) m x n
+Hears (Clearing p) Outside b m x n = Told Outside m x n
 Hears (Making p) r b m x n = Made p m x n
-Hears (Fetching p) reply.Page b m x n = Fetched p m b x n
-Hears (Fetching p) reply.Done b m x n = Told reply.Done m x n
-Hears (Fetching p) reply.NoRoom b m x n = Told reply.NoRoom m x n
-Hears (Fetching p) (reply.At q) b m x n = Told (reply.At q) m x n
-Hears (Fetching p) reply.Nowhere b m x n = Told reply.Nowhere m x n
-Hears (Fetching p) reply.Outside b m x n = Told reply.Outside m x n
+Hears (Fetching p) Page b m x n = Fetched p m b x n
+Hears (Fetching p) Done b m x n = Told Done m x n
+Hears (Fetching p) NoRoom b m x n = Told NoRoom m x n
+Hears (Fetching p) (Found q) b m x n = Told (Found q) m x n
+Hears (Fetching p) Outside b m x n = Told Outside m x n
 Hears (Flushing i) r b m x n = Flushed i m x n
 Hears Searching r b m x n = Told r m x n
 Hears Committing r b m x n = Told r m x n
@@ -266,7 +257,7 @@ pub record Wakes (m : Frames) : Type 0 where
   pub none : (f : ℕ) → tg m f ≡ 0
   pub clean : (f : ℕ) → st m f ≡ false
 
-abbrev pub frames_layer : Layer Frames Call Reply PageCall Never PageReply
+abbrev pub frames_layer : Layer Frames Call Reply PageCall Never Reply
 frames_layer = record {
   Wakes = λ size m. Wakes m;
   Takes = Takes;

@@ -1,5 +1,5 @@
 -- What numbered pages are to be.
-use Rattle.std.specs.Prelude.{◌≡◌, ℕ, ◌+◌, ◌*◌, ◌<◌, ◌≤◌, Bool, true, false, not, ◌&&◌, List, length, vec_len, ◌≢◌}
+use Rattle.std.specs.Prelude.{◌≡◌, ℕ, ◌+◌, ◌*◌, ◌<◌, ◌≤◌, Bool, true, false, not, ◌&&◌, Some, None, List, length, vec_len, ◌≢◌}
 use Rattle.device.specs.Device.{With, and, Engine, Judge, Sized}
 use Rattle.device.specs.Layers.{over}
 use Rattle.device.specs.Runs.{Whole}
@@ -10,11 +10,11 @@ use Rattle.shadow.specs.Layout.{pages, slots, blank_page, updated, count}
 use Rattle.pager.specs.Model.{pager_engine}
 use Rattle.pager.specs.Model as below
 use Rattle.pager.specs.declared.state.Pager.{Pager}
+use Rattle.pager.specs.declared.state.Reply.{Reply}
+use Rattle.pager.specs.declared.state.Reply.TheVariants.{Page, Done, NoRoom, Found, Outside}
 use Rattle.pages.specs.Layer.{frames_layer}
 use Rattle.pages.specs.declared.frames.PageCall.{PageCall}
 use Rattle.pages.specs.declared.frames.PageCall.TheVariants.{Get, Put, Vacant, Commit, Undo}
-use Rattle.pages.specs.declared.frames.PageReply.{PageReply}
-use Rattle.pages.specs.declared.frames.PageReply.TheVariants.{Page, Done, NoRoom, At, Nowhere, Outside}
 use Rattle.pages.specs.declared.frames.Frames.{Frames}
 
 -- the pages as committed, and as they are; which were put since the last commit or undo
@@ -42,23 +42,23 @@ abbrev pub kept : ℕ → Pages → ℕ
 kept size p = count (pages size) (λ n. not (blank (p.base n))) + count (pages size) (λ n. p.fresh n && not (blank (p.now n)))
 
 -- the answers to calls on a device of so many sectors; y are bytes that mean nothing
-pub data Replies (size : ℕ) : With PageCall → Pages → With PageReply → Pages → Type 0 where
+pub data Replies (size : ℕ) : With PageCall → Pages → With Reply → Pages → Type 0 where
   gets : (n : ℕ) (b : List ℕ) (p : Pages) → n < pages size → Replies size (and (Get n) b) p (and Page (p.now n)) p
   gets_none : (n : ℕ) (b y : List ℕ) (p : Pages) → pages size ≤ n → Replies size (and (Get n) b) p (and Outside y) p
   puts : (n : ℕ) (b y : List ℕ) (p : Pages) → n < pages size → length b ≡ 4096 → Replies size (and (Put n) b) p (and Done y) (put_page n b p)
   full : (n : ℕ) (b y : List ℕ) (p : Pages) → n < pages size → length b ≡ 4096 → slots size < kept size (put_page n b p) → Replies size (and (Put n) b) p (and NoRoom y) p
   puts_none : (n : ℕ) (b y : List ℕ) (p : Pages) → pages size ≤ n → Replies size (and (Put n) b) p (and Outside y) p
   puts_short : (n : ℕ) (b y : List ℕ) (p : Pages) → (length b ≢ 4096) → Replies size (and (Put n) b) p (and Outside y) p
-  finds : (n m : ℕ) (b y : List ℕ) (p : Pages) → n ≤ m → m < pages size → blank (p.now m) ≡ true → ((k : ℕ) → n ≤ k → k < m → blank (p.now k) ≡ false) → Replies size (and (Vacant n) b) p (and (At m) y) p
-  finds_none : (n : ℕ) (b y : List ℕ) (p : Pages) → ((k : ℕ) → n ≤ k → k < pages size → blank (p.now k) ≡ false) → Replies size (and (Vacant n) b) p (and Nowhere y) p
+  finds : (n m : ℕ) (b y : List ℕ) (p : Pages) → n ≤ m → m < pages size → blank (p.now m) ≡ true → ((k : ℕ) → n ≤ k → k < m → blank (p.now k) ≡ false) → Replies size (and (Vacant n) b) p (and (Found (Some m)) y) p
+  finds_none : (n : ℕ) (b y : List ℕ) (p : Pages) → ((k : ℕ) → n ≤ k → k < pages size → blank (p.now k) ≡ false) → Replies size (and (Vacant n) b) p (and (Found None) y) p
   commits : (b y : List ℕ) (p : Pages) → Replies size (and Commit b) p (and Done y) (keep p)
   undoes : (b y : List ℕ) (p : Pages) → Replies size (and Undo b) p (and Done y) (drop p)
 
-abbrev pub pages_judge : ℕ → Judge PageCall Never PageReply
+abbrev pub pages_judge : ℕ → Judge PageCall Never Reply
 pages_judge size = record { State = Pages; start = blank_pages; Answers = λ c p vs r q. Replies size c p r q; down = drop }
 
 -- the frames on the pager
-abbrev pub pages_engine : Engine (Over Pager Frames) PageCall Never PageReply
+abbrev pub pages_engine : Engine (Over Pager Frames) PageCall Never Reply
 pages_engine = over pager_engine frames_layer
 
 -- on a device of any size, every answer, over all calls and cuts, is the model's; and on every content of it only its sectors are asked for, and every call ends

@@ -17,18 +17,6 @@ pub enum PageCall {
     Undo,
 }
 
-#[derive(Clone, Copy)]
-pub enum PageReply {
-    // the bytes of the page are shown
-    Page,
-    Done,
-    NoRoom,
-    At(u64),
-    Nowhere,
-    // there is no such page, or it is not 4,096 bytes
-    Outside,
-}
-
 // What is under way, by what was asked of the pager last.
 #[derive(Clone, Copy)]
 pub enum Doing {
@@ -56,6 +44,8 @@ pub enum Doing {
 #[derive(Drop)]
 pub struct Frames {
     doing: Doing,
+    // kept: three arrays and a tag of eight bytes, since the memory that is promised is counted to the byte: a struct of an
+    // Option<u64>, a flag and 4,096 bytes takes 15 bytes more a frame by its padding
     // the page in each frame, plus one; 0 where there is none
     tags: Vec<u64>,
     // frames that the pager lacks

@@ -10,4 +10,5 @@
 pub mod frames;
 
 pub use frames::work::{open, room_stands};
-pub use frames::{FRAMES, Frames, PageCall, PageReply};
+pub use frames::{FRAMES, Frames, PageCall};
+pub use pager::Reply;

@@ -5,7 +5,7 @@ use Rattle.device.specs.declared.Next.{Next}
 use Rattle.device.specs.declared.Next.TheVariants.{Call as Calls, Give}
 use Rattle.pages.specs.declared.frames.PageCall.{PageCall}
 use Rattle.pages.specs.declared.frames.PageCall.TheVariants.{Get}
-use Rattle.pages.specs.declared.frames.PageReply.{PageReply}
+use Rattle.pager.specs.declared.state.Reply as pager
 use Rattle.meaning.specs.Tree as tree
 use Rattle.meaning.specs.Grammar.{Reads}
 use Rattle.text.specs.declared.parts.Refusal as text
@@ -60,7 +60,7 @@ StartsAt Resting x b = Is x b (Give (No NoQuery)) Resting
 abbrev pub HearsAt : Next PageCall Value Reply → Doing → Type 0
 HearsAt x b = Is x b (Give (Done 0)) Resting
 
-abbrev pub session_layer : Layer Session PageCall PageReply Call Value Reply
+abbrev pub session_layer : Layer Session PageCall pager.Reply Call Value Reply
 session_layer = record {
   Wakes = λ size a. a.doing ≡ Rising;
   Takes = λ a c b. TakenAs c.it c.bytes b.doing;

@@ -6,7 +6,7 @@ ghost use Rattle.session.specs.Layer.{session_layer, StartsAt, HearsAt, HeardAs,
 
 use crate::{Call, Refusal, Reply, Value};
 use device::{Layer, Next};
-use pages::{PageCall, PageReply};
+use pages::PageCall;
 use std::alloc::{AllocError, Global};
 use text::Nodes;
 
@@ -85,7 +85,7 @@ impl Session {
 impl Layer for Session {
     type Below = PageCall;
 
-    type Heard = PageReply;
+    type Heard = pages::Reply;
 
     type Call = Call;
 
@@ -105,7 +105,7 @@ impl Layer for Session {
         next
     }
 
-    fn hear(&mut self, r: PageReply, bytes: &[u8]) -> Next<PageCall, Value, Reply> {
+    fn hear(&mut self, r: pages::Reply, bytes: &[u8]) -> Next<PageCall, Value, Reply> {
         let (next, doing) = risen();
         self.doing = doing;
         next

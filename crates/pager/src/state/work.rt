@@ -1,7 +1,7 @@
 // What the pager does.
-ghost use Rattle.std.specs.Prelude.{◌≡◌, ℕ, ◌+◌, ◌*◌, ◌<◌, ◌≤◌, ◌⊎◌, IfOk};
+ghost use Rattle.std.specs.Prelude.{◌≡◌, ℕ, ◌+◌, ◌*◌, ◌<◌, ◌≤◌, [], IfOk};
 ghost use Rattle.pager.specs.Model.{Memory, pager_engine, PagerWhole};
-ghost use Rattle.pager.specs.Steps.{Opened, ws, Same, Sizes, FetchAt, LoadAt, Answers, CheckAt, CompareAt, GetAt, SlotOf, InSlot, GettingAt, Owns, IsFree, FreeSlot, Entered, SlotFor, PutAt, GiveAt, PuttingAt, FoundAt, NotFound, UndoAt, lacking, NextLacking, FillAt, SealAt, PhaseAt};
+ghost use Rattle.pager.specs.Steps.{Opened, Sizes, SlotOf, InSlot, Owns, IsFree, FreeSlot, Entered, SlotFor, lacking, NextLacking, Does};
 
 use super::{Call, Pager, Phase, Reply};
 use crate::leaves;
@@ -13,8 +13,7 @@ use std::alloc::{AllocError, Global};
 impl Pager {
     // The next map sector is wanted, or all are there.
     fn fetch(&mut self, i: usize) -> Ask<Never, Reply>
-        ensures at { FetchAt self.old.pages self.old.maps self.old.slots i self.old result self.new }
-        ensures sizes { Sizes self.old self.new }
+        ensures { Does (Phase.Fetch i) self.old [] result self.new }
     {
         if i < self.maps {
             self.phase = Phase::Loading(i);
@@ -29,8 +28,7 @@ impl Pager {
 
     // A sector of the active area.
     fn load(&mut self, i: usize, given: &[u8; 512]) -> Ask<Never, Reply>
-        ensures at { LoadAt self.old.maps self.old.slots i self.old given.now result self.new ⊎ ((self.old.maps ≤ i) × Answers result) }
-        ensures sizes { Sizes self.old self.new }
+        ensures { Does (Phase.Loading i) self.old given.now result self.new }
     {
         if i < self.maps {
             leaves::load(&mut self.base, given, i, self.slots);
@@ -43,8 +41,7 @@ impl Pager {
 
     // A sector of the other area is wanted, or all were compared.
     fn check(&mut self, i: usize) -> Ask<Never, Reply>
-        ensures at { CheckAt self.old.maps i self.old result self.new }
-        ensures sizes { Sizes self.old self.new }
+        ensures { Does (Phase.Check i) self.old [] result self.new }
     {
         if i < self.maps {
             self.phase = Phase::Comparing(i);
@@ -57,8 +54,7 @@ impl Pager {
 
     // A sector of the other area.
     fn compare(&mut self, i: usize, given: &[u8; 512]) -> Ask<Never, Reply>
-        ensures at { CompareAt self.old.maps self.old.slots i self.old given.now result self.new ⊎ ((self.old.maps ≤ i) × Answers result) }
-        ensures sizes { Sizes self.old self.new }
+        ensures { Does (Phase.Comparing i) self.old given.now result self.new }
     {
         if i < self.maps {
             let differs = leaves::differs(&self.base, given, i, self.slots);
@@ -91,8 +87,7 @@ impl Pager {
 
     // A page as it is at present.
     fn get(&mut self, p: usize) -> Ask<Never, Reply>
-        ensures at { GetAt self.old.pages self.old.maps self.old.slots p self.old result self.new }
-        ensures sizes { Sizes self.old self.new }
+        ensures { Does (Phase.Asked (Call.Get p)) self.old [] result self.new }
     {
         if p >= self.pages {
             self.phase = Phase::Idle;
@@ -109,8 +104,7 @@ impl Pager {
 
     // A sector of a page has come.
     fn gather(&mut self, slot: u64, j: usize, given: &[u8; 512]) -> Ask<Never, Reply>
-        ensures at { GettingAt self.old.maps self.old.slots slot j self.old given.now result self.new }
-        ensures sizes { Sizes self.old self.new }
+        ensures { Does (Phase.Getting slot j) self.old given.now result self.new }
     {
         if !self.in_slot(slot, j) {
             return Ask::Answer(Reply::Done);
@@ -188,8 +182,7 @@ impl Pager {
 
     // A page goes into a slot; a blank one takes none.
     fn put(&mut self, p: usize) -> Ask<Never, Reply>
-        ensures at { PutAt self.old.pages self.old.slots p self.old result self.new }
-        ensures sizes { Sizes self.old self.new }
+        ensures { Does (Phase.Asked (Call.Put p)) self.old [] result self.new }
     {
         self.phase = Phase::Idle;
         if p >= self.pages {
@@ -210,8 +203,7 @@ impl Pager {
 
     // A slot of its own for a page.
     fn give(&mut self, p: usize) -> Ask<Never, Reply>
-        ensures at { GiveAt self.old.pages self.old.slots p self.old result self.new }
-        ensures sizes { Sizes self.old self.new }
+        ensures { Does (Phase.Asked (Call.Give p)) self.old [] result self.new }
     {
         if p >= self.pages {
             self.phase = Phase::Idle;
@@ -227,8 +219,7 @@ impl Pager {
 
     // The next sector of a page.
     fn lay(&mut self, slot: u64, j: usize) -> Ask<Never, Reply>
-        ensures at { PuttingAt self.old.maps self.old.slots slot j self.old result self.new }
-        ensures sizes { Sizes self.old self.new }
+        ensures { Does (Phase.Putting slot j) self.old [] result self.new }
     {
         if j >= 8 {
             self.phase = Phase::Idle;
@@ -244,23 +235,18 @@ impl Pager {
 
     // The first page from p on that is blank.
     fn vacant(&mut self, p: usize) -> Ask<Never, Reply>
-        ensures at { FoundAt self.old.pages p self.old result self.new ⊎ NotFound self.old.pages p self.old result self.new }
-        ensures sizes { Sizes self.old self.new }
+        ensures { Does (Phase.Asked (Call.Vacant p)) self.old [] result self.new }
     {
         let page = (p..self.pages).find(|q| self.present[*q] == 0);
         self.phase = Phase::Idle;
-        match page {
-            Some(page) => Ask::Answer(Reply::At(page as u64)),
-            None => Ask::Answer(Reply::Nowhere),
-        }
+        Ask::Answer(Reply::Found(page.map(|page| page as u64)))
     }
 }
 
 // Commit and undo.
 impl Pager {
     fn undo(&mut self) -> Ask<Never, Reply>
-        ensures at { UndoAt self.old.maps self.old result self.new }
-        ensures sizes { Sizes self.old self.new }
+        ensures { Does (Phase.Asked Call.Undo) self.old [] result self.new }
     {
         leaves::settle(&mut self.present, &self.base, &self.dirty);
         self.dirty.fill(false);
@@ -285,8 +271,7 @@ impl Pager {
 
     // The next map sector that the other area lacks is written.
     fn fill(&mut self, i: usize) -> Ask<Never, Reply>
-        ensures at { FillAt self.old.maps i self.old result self.new }
-        ensures sizes { Sizes self.old self.new }
+        ensures { Does (Phase.Filling i) self.old [] result self.new }
     {
         let Some(at) = self.next_lacking(i) else {
             self.phase = Phase::Settled;
@@ -299,8 +284,7 @@ impl Pager {
 
     // What was written is the committed state now.
     fn seal(&mut self) -> Ask<Never, Reply>
-        ensures at { SealAt self.old.maps self.old result self.new }
-        ensures sizes { Sizes self.old self.new }
+        ensures { Does Phase.Sealed self.old [] result self.new }
     {
         self.second = !self.second;
         leaves::settle(&mut self.base, &self.present, &self.dirty);
@@ -314,8 +298,7 @@ impl Pager {
 impl Pager {
     // What each phase does.
     fn go(&mut self, given: &[u8; 512]) -> Ask<Never, Reply>
-        ensures at { PhaseAt self.old.pages self.old.maps self.old.slots self.old.phase self.old given.now result self.new }
-        ensures sizes { Sizes self.old self.new }
+        ensures { Does self.old.phase self.old given.now result self.new }
     {
         match self.phase {
             Phase::Opening => {

@@ -2,27 +2,13 @@
 ghost use Rattle.std.specs.Prelude.{◌≡◌, ℕ, ◌+◌, ◌-◌, ◌*◌, ◌%◌, ◌<◌, ◌≤◌, true, false, [], length, IfOk, slice_index_or};
 ghost use Rattle.octets.specs.Parts.{blank};
 ghost use Rattle.pages.specs.Model.{pages_engine, PagesWhole, RoomStands, Memory, Takings};
-ghost use Rattle.pages.specs.Layer.{Wakes, reply_of, frame_of, tg, st, fr, given, Same, Goes, Refills, Vacates, Stores, WritesBack, Hit, GetStarts, PutStarts, NextStale, FlushOn, UndoStarts, Owns, Cleared, Made, Fetched, Flushed, frames_layer};
+ghost use Rattle.pages.specs.Layer.{Wakes, frame_of, tg, st, fr, given, Same, Goes, Refills, Vacates, Stores, WritesBack, PageIn, Hit, GetStarts, PutStarts, NextStale, FlushOn, UndoStarts, Owns, Cleared, Made, Fetched, Flushed, frames_layer};
 
-use super::{Doing, FRAMES, Frames, PageCall, PageReply};
+use super::{Doing, FRAMES, Frames, PageCall};
 use device::{Layer, Never, Next, Over};
 use octets::is_blank;
 use pager::{Call, Pager, Reply};
 use std::alloc::{AllocError, Global};
-
-// The pager's answer as the answer to a call.
-fn reply_of(reply: Reply) -> PageReply
-    ensures { result ≡ reply_of reply }
-{
-    match reply {
-        Reply::Page => PageReply::Page,
-        Reply::Done => PageReply::Done,
-        Reply::NoRoom => PageReply::NoRoom,
-        Reply::At(page) => PageReply::At(page),
-        Reply::Nowhere => PageReply::Nowhere,
-        Reply::Outside => PageReply::Outside,
-    }
-}
 
 // The frame of a page.
 fn frame_of(p: u64) -> usize
@@ -31,23 +17,27 @@ fn frame_of(p: u64) -> usize
     (p % FRAMES as u64) as usize
 }
 
-// A page that is not there has no tag.
+// The tag of a page; the last number of all, which no page has, has none.
 fn tag_of(p: u64) -> u64
     ensures { p < 18446744073709551615 → result ≡ p + 1 }
 {
-    if p < u64::MAX { p + 1 } else { 0 }
+    p.wrapping_add(1)
 }
 
 impl Frames {
+    // The page in a frame, if there is one.
+    fn page_in(&self, f: usize) -> Option<u64>
+        requires { f < 128 }
+        ensures { PageIn f self.now result }
+    {
+        self.tags[f].checked_sub(1)
+    }
+
     // Whether a page is in its frame.
     fn hit(&self, p: u64) -> bool
         ensures { Hit p self.now result }
     {
-        let tag = self.tags[frame_of(p)];
-        if tag == 0 {
-            return false;
-        }
-        tag - 1 == p
+        self.page_in(frame_of(p)) == Some(p)
     }
 
     // The first frame from i on that the pager lacks.
@@ -90,7 +80,7 @@ impl Frames {
     }
 
     // The page that is put goes into its frame.
-    fn store(&mut self, p: u64) -> Next<Call, Never, PageReply>
+    fn store(&mut self, p: u64) -> Next<Call, Never, Reply>
         ensures { Stores p self.old result self.new }
     {
         let f = frame_of(p);
@@ -98,21 +88,21 @@ impl Frames {
         self.stale[f] = true;
         self.rows[f].copy_from_slice(&self.page);
         self.doing = Doing::Resting;
-        Next::Give(PageReply::Done)
+        Next::Give(Reply::Done)
     }
 
-    // The frame of a page is written back.
-    fn write_back(&mut self, p: u64, doing: Doing) -> Next<Call, Never, PageReply>
-        ensures { WritesBack p doing self.old result self.new }
+    // A frame is written back.
+    fn write_back(&mut self, f: usize, doing: Doing) -> Next<Call, Never, Reply>
+        requires { f < 128 }
+        ensures { WritesBack f doing self.old result self.new }
     {
-        let f = frame_of(p);
         self.at = f;
         self.doing = doing;
         Next::Call(Call::Put(self.tags[f].saturating_sub(1)))
     }
 
     // The next stale frame is written back, or the pager commits.
-    fn flush(&mut self, i: usize) -> Next<Call, Never, PageReply>
+    fn flush(&mut self, i: usize) -> Next<Call, Never, Reply>
         ensures on { FlushOn i result self.new }
         ensures same { Same self.old self.new }
     {
@@ -120,15 +110,13 @@ impl Frames {
             self.doing = Doing::Committing;
             return Next::Call(Call::Commit);
         };
-        self.at = f;
-        self.doing = Doing::Flushing(f);
-        Next::Call(Call::Put(self.tags[f].saturating_sub(1)))
+        self.write_back(f, Doing::Flushing(f))
     }
 }
 
 // At a call.
 impl Frames {
-    fn get(&mut self, p: u64) -> Next<Call, Never, PageReply>
+    fn get(&mut self, p: u64) -> Next<Call, Never, Reply>
         ensures { GetStarts p self.old result self.new }
     {
         let hit = self.hit(p);
@@ -136,16 +124,16 @@ impl Frames {
         if hit {
             self.at = frame_of(p);
             self.doing = Doing::Resting;
-            Next::Give(PageReply::Page)
+            Next::Give(Reply::Page)
         } else if stale {
-            self.write_back(p, Doing::Making(p))
+            self.write_back(frame_of(p), Doing::Making(p))
         } else {
             self.doing = Doing::Fetching(p);
             Next::Call(Call::Get(p))
         }
     }
 
-    fn put(&mut self, p: u64) -> Next<Call, Never, PageReply>
+    fn put(&mut self, p: u64) -> Next<Call, Never, Reply>
         ensures { PutStarts p self.old result self.new }
     {
         let blank = is_blank(&self.page);
@@ -155,16 +143,14 @@ impl Frames {
             self.doing = Doing::Clearing(p);
             return Next::Call(Call::Put(p));
         }
-        if hit {
-            if stale {
-                return self.store(p);
-            }
+        if hit && stale {
+            return self.store(p);
         }
         self.doing = Doing::Owning(p);
         Next::Call(Call::Give(p))
     }
 
-    fn undo(&mut self) -> Next<Call, Never, PageReply>
+    fn undo(&mut self) -> Next<Call, Never, Reply>
         ensures { UndoStarts self.old result self.new }
     {
         self.tags.fill(0);
@@ -177,31 +163,28 @@ impl Frames {
 // When the pager has answered.
 impl Frames {
     // There is a slot for the page that is put.
-    fn own(&mut self, p: u64) -> Next<Call, Never, PageReply>
+    fn own(&mut self, p: u64) -> Next<Call, Never, Reply>
         ensures { Owns p self.old result self.new }
     {
         let hit = self.hit(p);
         let stale = self.is_stale(frame_of(p));
-        if !hit {
-            if stale {
-                return self.write_back(p, Doing::Evicting(p));
-            }
+        if !hit && stale {
+            return self.write_back(frame_of(p), Doing::Evicting(p));
         }
         self.store(p)
     }
 
-    fn cleared(&mut self, p: u64) -> Next<Call, Never, PageReply>
+    fn cleared(&mut self, p: u64) -> Next<Call, Never, Reply>
         ensures { Cleared p self.old result self.new }
     {
-        let hit = self.hit(p);
-        if hit {
+        if self.hit(p) {
             self.vacate(p);
         }
         self.doing = Doing::Resting;
-        Next::Give(PageReply::Done)
+        Next::Give(Reply::Done)
     }
 
-    fn made(&mut self, p: u64) -> Next<Call, Never, PageReply>
+    fn made(&mut self, p: u64) -> Next<Call, Never, Reply>
         ensures { Made p self.old result self.new }
     {
         self.vacate(p);
@@ -209,20 +192,20 @@ impl Frames {
         Next::Call(Call::Get(p))
     }
 
-    fn fetched(&mut self, p: u64, bytes: &[u8]) -> Next<Call, Never, PageReply>
+    fn fetched(&mut self, p: u64, bytes: &[u8]) -> Next<Call, Never, Reply>
         ensures { Fetched p self.old bytes.now result self.new }
     {
         if bytes.len() != 4096 {
             self.doing = Doing::Resting;
-            return Next::Give(PageReply::Outside);
+            return Next::Give(Reply::Outside);
         }
         self.refill(p, tag_of(p), false, bytes);
         self.at = frame_of(p);
         self.doing = Doing::Resting;
-        Next::Give(PageReply::Page)
+        Next::Give(Reply::Page)
     }
 
-    fn flushed(&mut self, i: usize) -> Next<Call, Never, PageReply>
+    fn flushed(&mut self, i: usize) -> Next<Call, Never, Reply>
         ensures { Flushed i self.old result self.new }
     {
         if i < FRAMES {
@@ -231,11 +214,11 @@ impl Frames {
         self.flush(i.saturating_add(1))
     }
 
-    fn told(&mut self, reply: Reply) -> Next<Call, Never, PageReply>
-        ensures { Goes self.old result Doing.Resting (Next.Give (reply_of reply)) self.new }
+    fn told(&mut self, reply: Reply) -> Next<Call, Never, Reply>
+        ensures { Goes self.old result Doing.Resting (Next.Give reply) self.new }
     {
         self.doing = Doing::Resting;
-        Next::Give(reply_of(reply))
+        Next::Give(reply)
     }
 }
 
@@ -248,7 +231,7 @@ impl Layer for Frames {
 
     type Value = Never;
 
-    type Reply = PageReply;
+    type Reply = Reply;
 
     ghost layer = { frames_layer };
 
@@ -263,7 +246,7 @@ impl Layer for Frames {
         }
     }
 
-    fn start(&mut self) -> Next<Call, Never, PageReply> {
+    fn start(&mut self) -> Next<Call, Never, Reply> {
         match self.doing {
             Doing::Asked(PageCall::Get(p)) => self.get(p),
             Doing::Asked(PageCall::Put(p)) => self.put(p),
@@ -275,16 +258,16 @@ impl Layer for Frames {
             Doing::Asked(PageCall::Undo) => self.undo(),
             Doing::Short => {
                 self.doing = Doing::Resting;
-                Next::Give(PageReply::Outside)
+                Next::Give(Reply::Outside)
             }
             _ => {
                 self.doing = Doing::Resting;
-                Next::Give(PageReply::Done)
+                Next::Give(Reply::Done)
             }
         }
     }
 
-    fn hear(&mut self, r: Reply, bytes: &[u8]) -> Next<Call, Never, PageReply> {
+    fn hear(&mut self, r: Reply, bytes: &[u8]) -> Next<Call, Never, Reply> {
         match (self.doing, r) {
             (Doing::Owning(p), Reply::Done) => self.own(p),
             (Doing::Evicting(p), _) => self.store(p),

@@ -13,16 +13,19 @@ as-linked base b owner o n s l e k h z p i j =
     let v : get_or o (get_or base p 0) 0 < n = omega (arith, u.0, l) in
     (v, sym (e (get_or o (get_or base p 0) 0) v) ∙ ap (λ q. get_or b q 0) y ∙ u.1 ∙ x)
 
-pub returns-else-i-self-clause-at : goal.returns-else-i-self-clause-at
-returns-else-i-self-clause-at c =
-    inr (
-      c.if-i-self.false,
-      record {
-        ask = refl;
-        phase = refl;
-        second = refl;
-        base = refl;
-        present = search rules;
-        owner = let w = with_items_is c.args.self.now.owner c.link.new.owner (omega arith) in as-linked _ _ _ _ _ _ (search rules) (λ p l. search (rules, places)) (omega arith) c.link.ensures w;
-      },
-    )
+pub returns-else-i-self : goal.returns-else-i-self
+returns-else-i-self c =
+    record {
+      sizes = search rules;
+      at = inr (
+        c.if-i-self.false,
+        record {
+          ask = refl;
+          phase = refl;
+          second = refl;
+          base = refl;
+          present = search rules;
+          owner = let w = with_items_is c.args.self.now.owner c.link.new.owner (omega arith) in as-linked _ _ _ _ _ _ (search rules) (λ p l. search (rules, places)) (omega arith) c.link.ensures w;
+        },
+      );
+    }

@@ -2,12 +2,15 @@ use Rattle.std.proofs.Common.{◌≡◌, replicate, vec_len, ap, ◌∙◌, inl,
 use Rattle.shadow.proofs.Pages.{zeros-replicate}
 use Rattle.pager.proofs.state.Pager.get.Goals as goal
 
-pub returns-in_default-clause-at : goal.returns-in_default-clause-at
-returns-in_default-clause-at c =
+pub returns-in_default : goal.returns-in_default
+returns-in_default c =
     let z : vec_len c.args.self.now.page ≡ 4096 = omega arith in
-    inr (inl (record {
-      inside = search rules;
-      none = search rules;
-      goes = search rules;
-      page = c.fill.ensures.items (λ y e. e) ∙ ap (λ k. replicate k 0) z ∙ zeros-replicate 4096;
-    }))
+    record {
+      sizes = search rules;
+      at = inr (inl (record {
+        inside = search rules;
+        none = search rules;
+        goes = search rules;
+        page = c.fill.ensures.items (λ y e. e) ∙ ap (λ k. replicate k 0) z ∙ zeros-replicate 4096;
+      }));
+    }
