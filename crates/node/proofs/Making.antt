@@ -5,7 +5,6 @@ use Rattle.std.proofs.lemmas.Bool.{cases_lt, lt-ltb, le-ltb, le-leb, lt-leb}
 use Rattle.tree.specs.Entries.{Entry}
 use Rattle.tree.specs.Pages.{Page, weigh}
 use Rattle.tree.specs.Bytes.{taken}
-use Rattle.octets.proofs.Order.{clash}
 use Rattle.tree.proofs.Joins.{weigh-append}
 use Rattle.node.proofs.Places.{start-least}
 use Rattle.node.proofs.Weights.{weighs}
@@ -81,7 +80,7 @@ module _ (ps : List (List ℕ)) (len : ℕ) (key value page next : List ℕ) (so
   spare-page = ap spare pages-last ∙ spare-last (pages_to ps (len - 1)) (entries_in page)
 
   crowded : (r : Result ⊤ Full) → Pushed page key value r next → is_ok r ≡ false → spare (pages_to ps len) < 4 + (length key + length value)
-  crowded (Ok u) p e = absurd (clash (sym e))
+  crowded (Ok u) p e = cc
   crowded (Err f) (w, q) e = omega (arith, spare-page, weighs page formed-page, w)
 
   -- all that holds after it
@@ -144,7 +143,7 @@ module _ (ps qs rs : List Page) (e : Entry) (r : Bool) (small : taken e ≤ 4088
 
 pub joined-ok : (j : Joiner) (q : Page) (r : Result ⊤ Full) (k : Joiner) → is_ok r ≡ true → pages_of k ≡ join_on taken 4088 q (pages_of j) → JoinedBy j q r k
 joined-ok j q (Ok u) k t e = e
-joined-ok j q (Err f) k t e = absurd (clash t)
+joined-ok j q (Err f) k t e = cc
 
 -- PUSHING ENTRIES ONE AFTER ANOTHER
 -- an entry takes its weight of what the last page has to spare

@@ -26,12 +26,12 @@ held-storable (pos n) h = below (ltb n 9223372036854775808) refl h
   where
     below : (b : Bool) → ltb n 9223372036854775808 ≡ b → cond b (Num (pos n)) Null ≡ Num (pos n) → n < 9223372036854775808
     below true e h = ltb-true n 9223372036854775808 e
-    below false e h = let z : ◌≡◌ {A = ℕ} 0 1 = cc in absurd (omega arith)
+    below false e h = cc
 held-storable (negsuc n) h = below (ltb n 9223372036854775808) refl h
   where
     below : (b : Bool) → ltb n 9223372036854775808 ≡ b → cond b (Num (negsuc n)) Null ≡ Num (negsuc n) → n < 9223372036854775808
     below true e h = ltb-true n 9223372036854775808 e
-    below false e h = let z : ◌≡◌ {A = ℕ} 0 1 = cc in absurd (omega arith)
+    below false e h = cc
 
 pub lifted-below : (z : ℤ) → Held z → lifted z < 256 ^ 8
 unfolding lifted
@@ -161,17 +161,17 @@ columns-followed (d ∷ ds) (x ∷ xs) (y ∷ ys) b h k =
 
 next-alike : (v w : Verdict) → next v w ≡ Alike → (v ≡ Alike) × (w ≡ Alike)
 unfolding next
-next-alike Before w e = let z : ◌≡◌ {A = ℕ} 0 1 = cc in absurd (omega arith)
-next-alike After w e = let z : ◌≡◌ {A = ℕ} 0 1 = cc in absurd (omega arith)
+next-alike Before w e = cc
+next-alike After w e = cc
 next-alike Alike w e = (refl, e)
 
 column-alike : (d p q : Bool) → column d p q ≡ Alike → (not p && not q) ≡ true
 unfolding opposite verdict
-column-alike false true q e = let z : ◌≡◌ {A = ℕ} 0 1 = cc in absurd (omega arith)
-column-alike false false true e = let z : ◌≡◌ {A = ℕ} 0 1 = cc in absurd (omega arith)
+column-alike false true q e = cc
+column-alike false false true e = cc
 column-alike false false false e = refl
-column-alike true true q e = let z : ◌≡◌ {A = ℕ} 0 1 = cc in absurd (omega arith)
-column-alike true false true e = let z : ◌≡◌ {A = ℕ} 0 1 = cc in absurd (omega arith)
+column-alike true true q e = cc
+column-alike true false true e = cc
 column-alike true false false e = refl
 
 columns-alike : (ds : List Bool) (xs ys : List Value) → length xs ≡ length ds → length ys ≡ length ds → columns ds xs ys ≡ Alike → xs ≡ ys

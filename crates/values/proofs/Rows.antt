@@ -2,7 +2,6 @@
 use Rattle.std.proofs.Common.{◌≡◌, ℕ, zero, suc, ◌+◌, ◌-◌, ◌<◌, ◌≤◌, Bool, true, false, cond, eqb, ltb, leb, ◌⊎◌, List, [], ◌∷◌, ◌++◌, length, take, drop, ℤ, pos, negsuc, Some, None, Option, sym, refl, ap, ◌∙◌, subst, inl, inr, append_assoc, append-nil, arith, length-append, length-drop}
 use Rattle.std.specs.Option.{option_map, MatchOption, is_some}
 use Rattle.std.specs.Bool.{then_some}
-use Rattle.meaning.proofs.Order.{clash}
 use Rattle.std.specs.Iterator.{YieldsThen}
 use Rattle.std.specs.Int.Digits.{number_from_digits}
 use Rattle.std.proofs.ByRecursion.{All-take, All-drop}
@@ -42,7 +41,7 @@ lifted-lowered n h = go (ltb n 9223372036854775808) refl
 
 pub guarded : {A : Type 0} (b : Bool) (o : Option A) (s : A) → cond b o None ≡ Some s → (b ≡ true) × (o ≡ Some s)
 guarded true o s e = (refl, e)
-guarded false o s e = let z : ◌≡◌ {A = ℕ} 0 1 = cc in absurd (omega arith)
+guarded false o s e = cc
 
 pub chosen : {A : Type 0} (b : Bool) (o p : Option A) (s : A) → cond b o p ≡ Some s → ((b ≡ true) × (o ≡ Some s)) ⊎ (p ≡ Some s)
 chosen true o p s e = inl (refl, e)
@@ -50,9 +49,6 @@ chosen false o p s e = inr e
 
 pub same_some : {A : Type 0} (x y : A) → Some x ≡ Some y → y ≡ x
 same_some x y e = cc
-
-pub never-none : {A P : Type 0} (x : A) → None ≡ Some x → P
-never-none x e = let z : ◌≡◌ {A = ℕ} 0 1 = cc in absurd (omega arith)
 
 -- what the first value of bytes can be
 unfoldable pub View : ℕ → List ℕ → Split → Type 0
@@ -83,7 +79,7 @@ view kind bs s e = at_null (chosen (eqb kind 0) _ _ s e)
 -- fewer bytes are left
 pub front-shorter : (bs : List ℕ) (s : Split) → front bs ≡ Some s → length s.rest < length bs
 unfolding front View
-front-shorter [] s e = never-none s e
+front-shorter [] s e = cc
 front-shorter (kind ∷ bs) s e = go (view kind bs s e)
   where
     go : View kind bs s → length s.rest < suc (length bs)
@@ -102,7 +98,7 @@ row-nil = refl
 -- one value taken off
 pub row_more : (f : ℕ) (bs : List ℕ) (s : Split) → front bs ≡ Some s → row_by (suc f) bs ≡ option_map (λ (vs : List Value). s.value ∷ vs) (row_by f s.rest)
 unfolding row_by
-row_more f [] s e = never-none s (sym front-nil ∙ e)
+row_more f [] s e = cc (sym front-nil ∙ e)
 row_more f (b ∷ bs) s e = ap (λ (o : Option Split). chained o (λ (t : Split). option_map (λ (vs : List Value). t.value ∷ vs) (row_by f t.rest))) e
 
 pub row-stops : (f : ℕ) (bs : List ℕ) → (length bs ≡ 0 → ⊥) → front bs ≡ None → row_by f bs ≡ None
@@ -187,7 +183,7 @@ number-written bs b h =
 
 front-written : (bs : List ℕ) (s : Split) → Bytes bs → front bs ≡ Some s → (bytes_of s.value ++ s.rest ≡ bs) × Bytes s.rest
 unfolding front View bytes_of
-front-written [] s b e = never-none s e
+front-written [] s b e = cc
 front-written (kind ∷ bs) s b e = go (view kind bs s e)
   where
     go : View kind bs s → (bytes_of s.value ++ s.rest ≡ kind ∷ bs) × Bytes s.rest
@@ -209,17 +205,17 @@ front-written (kind ∷ bs) s b e = go (view kind bs s e)
 
 -- a row of one value more
 mapped-some : (v : Value) (o : Option (List Value)) (vs : List Value) → option_map (λ (ws : List Value). v ∷ ws) o ≡ Some vs → (ws : List Value) × (o ≡ Some ws) × (vs ≡ v ∷ ws)
-mapped-some v None vs e = never-none vs e
+mapped-some v None vs e = cc
 mapped-some v (Some ws) vs e = (ws, refl, same_some (v ∷ ws) vs e)
 
 row_written : (f : ℕ) (bs : List ℕ) (vs : List Value) → Bytes bs → row_by f bs ≡ Some vs → row_bytes vs ≡ bs
 unfolding row_by row_bytes
 row_written f [] vs b e = ap row_bytes (same_some [] vs e)
-row_written zero (x ∷ bs) vs b e = never-none vs e
+row_written zero (x ∷ bs) vs b e = cc
 row_written (suc f) (x ∷ bs) vs b e = go (front (x ∷ bs)) refl (row_written f)
   where
     go : (o : Option Split) → front (x ∷ bs) ≡ o → ((rest : List ℕ) (ws : List Value) → Bytes rest → row_by f rest ≡ Some ws → row_bytes ws ≡ rest) → row_bytes vs ≡ x ∷ bs
-    go None e' rest = never-none vs (sym (row-stops (suc f) (x ∷ bs) (λ z. omega arith) e') ∙ e)
+    go None e' rest = cc (sym (row-stops (suc f) (x ∷ bs) (λ z. omega arith) e') ∙ e)
     go (Some s) e' rest =
         let p = mapped-some s.value (row_by f s.rest) vs (sym (row_more f (x ∷ bs) s e') ∙ e) in
         let q = front-written (x ∷ bs) s b e' in
@@ -261,7 +257,7 @@ nth-is i s t (w ∷ vs) (Some v) (j, (u, a, y), b) m = nth-is (i - 1) u t vs (So
 row-columns : (f : ℕ) (bs : List ℕ) (vs : List Value) (i : ℕ) → row_by f bs ≡ Some vs → column_of i bs ≡ cond (ltb i (length vs)) (Some (nth i vs)) None
 unfolding row_by nth
 row-columns f [] vs i e = column-none i [] front-nil ∙ sym (cond-false (ltb i 0) (Some (nth i [])) None (le-ltb i 0 (omega arith))) ∙ ap (λ (ws : List Value). cond (ltb i (length ws)) (Some (nth i ws)) None) (sym (same_some [] vs e))
-row-columns zero (x ∷ bs) vs i e = never-none vs e
+row-columns zero (x ∷ bs) vs i e = cc
 row-columns (suc f) (x ∷ bs) vs i e = go (front (x ∷ bs)) refl i (row-columns f)
   where
     at_first : (s : Split) (ws : List Value) (i : ℕ) → front (x ∷ bs) ≡ Some s → ((j : ℕ) → column_of j s.rest ≡ cond (ltb j (length ws)) (Some (nth j ws)) None) → column_of i (x ∷ bs) ≡ cond (ltb i (suc (length ws))) (Some (nth i (s.value ∷ ws))) None
@@ -272,7 +268,7 @@ row-columns (suc f) (x ∷ bs) vs i e = go (front (x ∷ bs)) refl i (row-column
         column-more (suc i) (x ∷ bs) s (omega arith) e' ∙ ap (λ k. column_of k s.rest) n ∙ rest i ∙ ap (λ (b : Bool). cond b (Some (nth i ws)) None) t
 
     go : (o : Option Split) → front (x ∷ bs) ≡ o → (i : ℕ) → ((rest : List ℕ) (ws : List Value) (j : ℕ) → row_by f rest ≡ Some ws → column_of j rest ≡ cond (ltb j (length ws)) (Some (nth j ws)) None) → column_of i (x ∷ bs) ≡ cond (ltb i (length vs)) (Some (nth i vs)) None
-    go None e' i rest = never-none vs (sym (row-stops (suc f) (x ∷ bs) (λ z. omega arith) e') ∙ e)
+    go None e' i rest = cc (sym (row-stops (suc f) (x ∷ bs) (λ z. omega arith) e') ∙ e)
     go (Some s) e' i rest =
         let p = mapped-some s.value (row_by f s.rest) vs (sym (row_more f (x ∷ bs) s e') ∙ e) in
         at_first s p.0 i e' (λ j. rest s.rest p.0 j p.1) ∙ ap (λ (ws : List Value). cond (ltb i (length ws)) (Some (nth i ws)) None) (sym p.2)
@@ -298,14 +294,14 @@ count-more n v None = refl
 count-more n v (Some vs) = ap Some (omega arith)
 
 pub count-taken : (n : ℕ) (bs rest : List ℕ) (r : Option V.Value) → Takes bs r rest → true ≡ is_some r → (option_map (λ (vs : List Value). n + 1 + length vs) (row_of rest) ≡ option_map (λ (vs : List Value). n + length vs) (row_of bs)) × (length rest < length bs)
-count-taken n bs rest None t e = clash (sym e)
+count-taken n bs rest None t e = cc
 count-taken n bs rest (Some v) t e =
     let s : Split = record { value = meaning_of v; rest = rest } in
     (count-more n s.value (row_of rest) ∙ ap (option_map (λ (vs : List Value). n + length vs)) (sym (row-front bs s t)), front-shorter bs s t)
 
 pub count-ends : (n : ℕ) (bs rest : List ℕ) (r : Option V.Value) → Takes bs r rest → false ≡ is_some r → then_some (eqb (length rest) 0) n ≡ option_map (λ (vs : List Value). n + length vs) (row_of bs)
 unfolding row_by
-count-ends n bs rest (Some v) t e = clash (cc)
+count-ends n bs rest (Some v) t e = cc
 count-ends n bs rest None t e = ap (λ (l : List ℕ). then_some (eqb (length l) 0) n) t.1 ∙ go bs t.0
   where
     go : (l : List ℕ) → front l ≡ None → then_some (eqb (length l) 0) n ≡ option_map (λ (vs : List Value). n + length vs) (row_of l)

@@ -9,7 +9,7 @@ use Rattle.octets.specs.Numbers.{Bytes}
 use Rattle.values.specs.Key.{escaped, rising_code}
 use Rattle.values.specs.Row.{Split, bytes_of, front, front_of}
 use Rattle.values.specs.Back.{Taken, added, unescaped, text_back, back_of, back, ColumnsRead, ColumnsWritten}
-use Rattle.values.proofs.Rows.{guarded, chosen, same_some, never-none, front_read, number-written, View, view}
+use Rattle.values.proofs.Rows.{guarded, chosen, same_some, front_read, number-written, View, view}
 
 -- what a text goes on with
 
@@ -107,14 +107,14 @@ columns-read (Text t) rest h w = ap (option_map (λ (u : Taken). record { value 
 -- what is read was written
 
 mapped-from : {A B : Type 0} (f : A → B) (o : Option A) (y : B) → option_map f o ≡ Some y → (x : A) × (o ≡ Some x) × (y ≡ f x)
-mapped-from f None y e = never-none y e
+mapped-from f None y e = cc
 mapped-from f (Some x) y e = (x, refl, same_some (f x) y e)
 
 added-written : (room b : ℕ) (bs : List ℕ) (t : Taken) → ((u : Taken) → unescaped (room - 1) bs ≡ Some u → escaped u.text ++ u.rest ≡ bs) → added room b (unescaped (room - 1) bs) ≡ Some t → (u : Taken) × (t ≡ record { text = b ∷ u.text; rest = u.rest }) × (escaped u.text ++ u.rest ≡ bs)
 added-written room b bs t ih e = go (chosen (eqb room 0) None (option_map (λ (u : Taken). record { text = b ∷ u.text; rest = u.rest }) (unescaped (room - 1) bs)) t e)
   where
     go : ((eqb room 0 ≡ true) × (None ≡ Some t)) ⊎ (option_map (λ (u : Taken). record { text = b ∷ u.text; rest = u.rest }) (unescaped (room - 1) bs) ≡ Some t) → (u : Taken) × (t ≡ record { text = b ∷ u.text; rest = u.rest }) × (escaped u.text ++ u.rest ≡ bs)
-    go (inl p) = never-none t p.1
+    go (inl p) = cc p.1
     go (inr p) = let q = mapped-from (λ (u : Taken). record { text = b ∷ u.text; rest = u.rest }) (unescaped (room - 1) bs) t p in (q.0, q.2, ih q.0 q.1)
 
 marked-written : (room m : ℕ) (bs : List ℕ) (t : Taken) → ((u : Taken) → unescaped (room - 1) bs ≡ Some u → escaped u.text ++ u.rest ≡ bs) → cond (eqb m 1) (Some (record { text = []; rest = bs })) (cond (eqb m 255) (added room 0 (unescaped (room - 1) bs)) None) ≡ Some t → escaped t.text ++ t.rest ≡ 0 ∷ m ∷ bs
@@ -130,8 +130,8 @@ marked-written room m bs t ih e = go (chosen (eqb m 1) (Some (record { text = []
 
 unescaped-written : (room : ℕ) (bs : List ℕ) (t : Taken) → unescaped room bs ≡ Some t → escaped t.text ++ t.rest ≡ bs
 unfolding unescaped escaped
-unescaped-written room [] t e = never-none t e
-unescaped-written room (zero ∷ []) t e = never-none t e
+unescaped-written room [] t e = cc
+unescaped-written room (zero ∷ []) t e = cc
 unescaped-written room (zero ∷ m ∷ bs) t e = marked-written room m bs t (unescaped-written (room - 1) bs) e
 unescaped-written room (suc b ∷ bs) t e = let p = added-written room (suc b) bs t (unescaped-written (room - 1) bs) e in ap (λ (u : Taken). escaped u.text ++ u.rest) p.1 ∙ ap (λ s. suc b ∷ s) p.2
 
@@ -149,7 +149,7 @@ text-written bs s e =
 
 pub columns-written : ColumnsWritten
 unfolding back rising_code
-columns-written [] s b e = never-none s e
+columns-written [] s b e = cc
 columns-written (kind ∷ bs) s b e = at_null (chosen (eqb kind 1) (front_of 0 bs) (cond (eqb kind 2) (front_of 1 bs) (cond (eqb kind 3) (text_back bs) None)) s e)
   where
     at-text : (eqb kind 3 ≡ true) × (text_back bs ≡ Some s) → rising_code s.value ++ s.rest ≡ kind ∷ bs
