@@ -117,8 +117,9 @@ impl<'a> Value<'a> {
     {
         match self {
             Value::Null => Truth::Unknown,
-            Value::Number(0) | Value::Text(_) => Truth::Fails,
+            Value::Number(0) => Truth::Fails,
             Value::Number(_) => Truth::Holds,
+            Value::Text(_) => Truth::Fails,
         }
     }
 }

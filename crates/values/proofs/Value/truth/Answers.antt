@@ -14,6 +14,6 @@ pub returns-in-Number-eq0 : goal.returns-in-Number-eq0
 unfolding truth
 returns-in-Number-eq0 c = search rules
 
-pub returns-in-Number-eq0-2 : goal.returns-in-Number-eq0-2
+pub returns-in-Text : goal.returns-in-Text
 unfolding truth
-returns-in-Number-eq0-2 c = search rules
+returns-in-Text c = search rules
