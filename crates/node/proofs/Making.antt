@@ -2,6 +2,7 @@
 use Rattle.std.proofs.Common.{Result, Ok, Err, is_ok, ◌≡◌, ℕ, zero, suc, ◌+◌, ◌-◌, ◌<◌, ◌≤◌, Bool, true, false, cond, ltb, leb, ◌≢◌, ◌⊎◌, List, [], ◌∷◌, ◌++◌, length, get_or, set, sym, refl, ap, ◌∙◌, subst, inl, inr, append_assoc, append-nil, add-one, arith, get_or-set_other, get_or-set_same}
 use Rattle.std.specs.Bool.{⊤}
 use Rattle.std.proofs.lemmas.Bool.{cases_lt, lt-ltb, le-ltb, le-leb, lt-leb}
+use Rattle.std.proofs.lemmas.List.{length_push}
 use Rattle.tree.specs.Entries.{Entry}
 use Rattle.tree.specs.Pages.{Page, weigh}
 use Rattle.tree.specs.Bytes.{taken}
@@ -10,8 +11,7 @@ use Rattle.node.proofs.Places.{start-least}
 use Rattle.node.proofs.Weights.{weighs}
 use Rattle.node.specs.Node.{count_in, entry_at, entries_to, entries_from, entries_in, Formed, Cleared, Pushed}
 use Rattle.node.specs.declared.Full.{Full}
-use Rattle.node.specs.declared.joiner.Joiner.{Joiner}
-use Rattle.node.specs.Joiner.{pages_of, JoinedBy, pages_to, on_last, on_last_all, spare, join_on}
+use Rattle.node.specs.Joiner.{Made, JoinedBy, pages_to, on_last, on_last_all, spare, join_on}
 
 module _ (ps : List (List ℕ)) (n : ℕ) (x : List ℕ) (h : n < length ps) where
   pages-before : (m : ℕ) → m ≤ n → pages_to (set ps n x) m ≡ pages_to ps m
@@ -33,6 +33,15 @@ module _ (ps : List (List ℕ)) (n : ℕ) (x : List ℕ) (h : n < length ps) whe
       go : (i < n) ⊎ (n ≤ i) → Formed (get_or (set ps n x) i []) (count_in (get_or (set ps n x) i []))
       go (inl p) = let ne : i ≢ n = (λ e. omega arith) in subst (λ q. Formed q (count_in q)) (sym (get_or-set_other ps n i x [] ne)) (f i p)
       go (inr p) = let e : n ≡ i = omega arith in subst (λ j. Formed (get_or (set ps n x) j []) (count_in (get_or (set ps n x) j []))) e (subst (λ q. Formed q (count_in q)) (sym (get_or-set_same ps n x [] h)) g)
+
+pub length-pages : (ps : List (List ℕ)) (n : ℕ) → length (pages_to ps n) ≡ n
+unfolding pages_to
+length-pages ps zero = refl
+length-pages ps (suc n) = length_push (pages_to ps n) (entries_in (get_or ps n [])) ∙ (let e = length-pages ps n in omega arith)
+
+pub no-pages : (ps : List (List ℕ)) (n : ℕ) → n ≡ 0 → pages_to ps n ≡ []
+unfolding pages_to
+no-pages ps n e = ap (pages_to ps) e
 
 pub no-entries : (level : ℕ) (x : List ℕ) → Cleared level x → entries_in x ≡ []
 unfolding entries_to
@@ -108,14 +117,20 @@ joined-one e (p ∷ q ∷ ps) = behind (ltb (spare (q ∷ ps)) (taken e)) ∙ ap
     behind true = refl
     behind false = refl
 
-pub spare-none : (ps : List (List ℕ)) (len : ℕ) → len ≡ 0 → spare (pages_to ps len) ≡ 0
-unfolding spare pages_to
-spare-none ps len e = ap (λ n. spare (pages_to ps n)) e
+pub spare-none : spare [] ≡ 0
+unfolding spare
+spare-none = refl
 
-pub spare-some : (ps : List (List ℕ)) (len : ℕ) → 0 < spare (pages_to ps len) → 0 < len
-unfolding spare pages_to
-spare-some ps zero h = h
-spare-some ps (suc n) h = omega arith
+pub spare-some : (ps : List Page) → 0 < spare ps → 0 < length ps
+unfolding spare
+spare-some [] h = h
+spare-some (p ∷ ps) h = omega arith
+
+pub length-on-last : (e : Entry) (ps : List Page) → length (on_last e ps) ≡ length ps
+unfolding on_last
+length-on-last e [] = refl
+length-on-last e (p ∷ []) = refl
+length-on-last e (p ∷ q ∷ ps) = ap suc (length-on-last e (q ∷ ps))
 
 no-weight : weigh taken [] ≡ 0
 unfolding weigh
@@ -141,21 +156,18 @@ module _ (ps qs rs : List Page) (e : Entry) (r : Bool) (small : taken e ≤ 4088
   pub joined_by : rs ≡ join_on taken 4088 (e ∷ []) ps
   joined_by = pushed ∙ ap (λ t. cond t (on_last e qs) qs) was-pushed ∙ ap (on_last e) reserved ∙ joined-one e ps
 
-pub joined-ok : (j : Joiner) (q : Page) (r : Result ⊤ Full) (k : Joiner) → is_ok r ≡ true → pages_of k ≡ join_on taken 4088 q (pages_of j) → JoinedBy j q r k
-joined-ok j q (Ok u) k t e = e
-joined-ok j q (Err f) k t e = cc
+pub joined-ok : (m : Made) (q : Page) (r : Result ⊤ Full) (k : Made) → is_ok r ≡ true → k ≡ record { level = m.level; pages = join_on taken 4088 q m.pages } → JoinedBy m q r k
+joined-ok m q (Ok u) k t e = e
+joined-ok m q (Err f) k t e = cc
 
 -- PUSHING ENTRIES ONE AFTER ANOTHER
 -- an entry takes its weight of what the last page has to spare
-pub spare-pushed : (ps : List (List ℕ)) (len : ℕ) (e : Entry) → 0 < len → spare (on_last e (pages_to ps len)) ≡ spare (pages_to ps len) - taken e
-unfolding pages_to weigh
-spare-pushed ps zero e h = absurd (omega arith)
-spare-pushed ps (suc n) e h =
-    let q = entries_in (get_or ps n []) in
-    let a = spare-last (pages_to ps n) q in
-    let b = ap spare (on-last e (pages_to ps n) q) ∙ spare-last (pages_to ps n) (q ++ (e ∷ [])) in
-    let w = weigh-append taken q (e ∷ []) in
-    omega arith
+pub spare-pushed : (ps : List Page) (e : Entry) → 0 < length ps → spare (on_last e ps) ≡ spare ps - taken e
+unfolding spare on_last weigh
+spare-pushed [] e h = absurd (omega arith)
+spare-pushed (p ∷ []) e h = let w = weigh-append taken p (e ∷ []) in omega arith
+spare-pushed (p ∷ q ∷ []) e h = spare-pushed (q ∷ []) e (omega arith)
+spare-pushed (p ∷ q ∷ r ∷ ps) e h = spare-pushed (q ∷ r ∷ ps) e (omega arith)
 
 -- one entry more of a part of a page
 module _ (page : List ℕ) (i to : ℕ) (h : i < to) where

@@ -1,7 +1,9 @@
 // Pages of a level as they are made anew: entries are added in order, and a unit of them begins a page of its own where the
 // last page has no room for all of it. So two neighbours together always exceed a page.
-ghost use Rattle.std.specs.Prelude.{◌≡◌, ◌≤◌, vec_len, vec_items};
-ghost use Rattle.node.specs.Node.{Sound};
+ghost use Rattle.std.specs.Prelude.{vec_len, vec_items};
+ghost use Rattle.node.specs.Joiner.{Made, Kept, pages_to};
+
+use std::marker::Model;
 
 mod work;
 
@@ -11,6 +13,7 @@ pub const MOST: usize = 24;
 // The bytes of entries that a page holds.
 pub const CAPACITY: usize = 4088;
 
+// What is known of it is its level, and the entries of each page.
 #[derive(Drop)]
 pub struct Joiner {
     pages: Vec<[u8; 4096]>,
@@ -18,7 +21,12 @@ pub struct Joiner {
     // kept: a length beside them, by (a): to push a page onto the others would need a page on the stack
     len: usize,
     level: u8,
-    ghost room: { vec_len pages ≡ 24 },
-    ghost few: { len ≤ 24 },
-    ghost sound: { Sound (vec_items pages) len },
+}
+
+impl Model for Joiner {
+    ghost Value = { Made };
+
+    ghost view = { λ j. record { level = j.level; pages = pages_to (vec_items j.pages) j.len } };
+
+    ghost invariant = { λ j. Kept (vec_len j.pages) (vec_items j.pages) j.len };
 }

@@ -1,7 +1,7 @@
 // What is done with the pages of a joiner.
 ghost use Rattle.std.specs.Prelude.{◌≡◌, ◌+◌, ◌<◌, ◌≤◌, [], ◌∷◌, length, IfOk};
 ghost use Rattle.node.specs.Node.{count_in, entries_in, lies, Whole};
-ghost use Rattle.node.specs.Joiner.{pages_of, OpenedBy, PushedBy, spare, ReservedBy, JoinedBy, AllPushed};
+ghost use Rattle.node.specs.Joiner.{OpenedBy, PushedBy, spare, ReservedBy, JoinedBy, AllPushed};
 
 use crate::joiner::{CAPACITY, Joiner, MOST};
 use crate::{Entry, Full, Node, clear, push};
@@ -10,7 +10,7 @@ use std::alloc::{AllocError, Global};
 impl Joiner {
     // All its memory is taken here.
     pub fn new(heap: Global) -> Result<Joiner, AllocError>
-        ensures { IfOk result (λ j. pages_of j ≡ []) }
+        ensures { IfOk result (λ j. j ≡ record { level = 0; pages = [] }) }
     {
         Ok(Joiner {
             pages: vec![in heap; [0; 4096]; MOST]?,
@@ -21,7 +21,7 @@ impl Joiner {
 
     // No pages, of another level.
     pub fn begin(&mut self, level: u8)
-        ensures { pages_of self.new ≡ [] }
+        ensures { self.new ≡ record { level = level; pages = [] } }
     {
         self.level = level;
         self.len = 0;
@@ -53,7 +53,7 @@ impl Joiner {
 
     // How many bytes the last page has room for; none where there is no page.
     fn room(&self) -> usize
-        ensures { result ≡ spare (pages_of self.now) }
+        ensures { result ≡ spare self.now.pages }
     {
         let len = self.len;
         if len == 0 {

@@ -1,11 +1,17 @@
-use Rattle.std.proofs.Common.{◌<◌, [], ◌∷◌, ◌++◌, length, vec_items, ap, ◌∙◌, arith}
-use Rattle.node.specs.Joiner.{pages_to}
-use Rattle.node.proofs.Making.{pages-set, no-entries}
+use Rattle.std.proofs.Common.{◌≡◌, ◌+◌, ◌<◌, [], ◌∷◌, ◌++◌, length, set, vec_items, sym, refl, subst, ap, ◌∙◌, arith}
+use Rattle.node.specs.Joiner.{Made, Remade, pages_to}
+use Rattle.node.proofs.Making.{pages-set, length-pages, no-entries}
 use Rattle.node.proofs.joiner.Joiner.open.Goals as goal
+
+pub returns-then-at-len : goal.returns-then-at-len
+returns-then-at-len c = (ap (λ (m : Made). length m.pages) (sym c.self.view_is) ∙ length-pages (vec_items c.self.inside.pages) c.self.inside.len ∙ omega (arith, c.len.ensures), refl)
 
 pub returns : goal.returns
 returns c =
-    let ps = vec_items c.args.self.now.pages in
-    let n = c.args.self.now.len in
-    let h : n < length ps = omega (arith, c.args.self.now.pages.ok.0, c.len.ensures, c.if-at-len.false) in
-    pages-set ps n c.clear.new.page h ∙ ap (λ q. pages_to ps n ++ (q ∷ [])) (no-entries c.args.self.now.level c.clear.new.page c.clear.ensures)
+    let j = c.self.inside in
+    let ps = vec_items j.pages in
+    let n = j.len in
+    let x = c.clear.new.page in
+    let h : n < length ps = omega (arith, j.pages.ok.0, c.len.ensures, c.if-at-len.false) in
+    let one : pages_to (set ps n x) (n + 1) ≡ pages_to ps n ++ ([] ∷ []) = pages-set ps n x h ∙ ap (λ q. pages_to ps n ++ (q ∷ [])) (no-entries j.level x c.clear.ensures) in
+    subst (λ (m : Made). Remade m (m.pages ++ ([] ∷ [])) (record { level = j.level; pages = pages_to (set ps n x) (n + 1) })) c.self.view_is (λ i. record { level = j.level; pages = one i })
