@@ -91,6 +91,30 @@ impl<'a> Printer<'a> {
     }
 }
 
+impl<'a> Printer<'a> {
+    // The items of a list, with commas: `item` prints one and answers where the next is. It may nest less deep than so many nodes.
+    fn list<F: FnMut(&mut Printer<'a>, Node, usize) -> Result<Option<u16>, AllocError>>(
+        &mut self,
+        first: u16,
+        left: usize,
+        mut item: F,
+    ) -> Result<(), AllocError>
+        requires { F.IsAlwaysCallable item }
+    {
+        let mut at = first;
+        for turn in (0..left).rev() {
+            let Some(rest) = item(self, self.nodes.get(at), turn)? else {
+                return Ok(());
+            };
+            if !self.comma(rest)? {
+                return Ok(());
+            }
+            at = rest;
+        }
+        Ok(())
+    }
+}
+
 // Expressions and queries.
 impl<'a> Printer<'a> {
     // An expression between two texts.
@@ -226,89 +250,64 @@ impl<'a> Printer<'a> {
     }
 
     fn sources(&mut self, first: u16, left: usize) -> Result<(), AllocError> {
-        let mut at = first;
-        for _ in 0..left {
-            let Node::Source(table, alias, rest) = self.nodes.get(at) else {
-                return Ok(());
+        self.list(first, left, |printer, node, _| {
+            let Node::Source(table, alias, rest) = node else {
+                return Ok(None);
             };
-            self.name(table)?;
-            if !self.is_same(table, alias) {
-                self.named(" ", alias)?;
+            printer.name(table)?;
+            if !printer.is_same(table, alias) {
+                printer.named(" ", alias)?;
             }
-            if !self.comma(rest)? {
-                return Ok(());
-            }
-            at = rest;
-        }
-        Ok(())
+            Ok(Some(rest))
+        })
     }
 }
 
 // The lists of statements.
 impl<'a> Printer<'a> {
     fn cols(&mut self, first: u16) -> Result<(), AllocError> {
-        let mut at = first;
-        for _ in 0..NODES {
-            let Node::Col(col, is_text, must, rest) = self.nodes.get(at) else {
-                return Ok(());
+        self.list(first, NODES, |printer, node, _| {
+            let Node::Col(col, is_text, must, rest) = node else {
+                return Ok(None);
             };
-            self.name(col)?;
-            self.say(if is_text { " text" } else { " int" })?;
-            self.say(if must { " not null" } else { "" })?;
-            if !self.comma(rest)? {
-                return Ok(());
-            }
-            at = rest;
-        }
-        Ok(())
+            printer.name(col)?;
+            printer.say(if is_text { " text" } else { " int" })?;
+            printer.say(if must { " not null" } else { "" })?;
+            Ok(Some(rest))
+        })
     }
 
     fn names(&mut self, first: u16) -> Result<(), AllocError> {
-        let mut at = first;
-        for _ in 0..NODES {
-            let Node::Name(col, rest) = self.nodes.get(at) else {
-                return Ok(());
+        self.list(first, NODES, |printer, node, _| {
+            let Node::Name(col, rest) = node else {
+                return Ok(None);
             };
-            self.name(col)?;
-            if !self.comma(rest)? {
-                return Ok(());
-            }
-            at = rest;
-        }
-        Ok(())
+            printer.name(col)?;
+            Ok(Some(rest))
+        })
     }
 
     fn rows(&mut self, first: u16) -> Result<(), AllocError> {
-        let mut at = first;
-        for turn in (0..NODES).rev() {
-            let Node::Row(row, rest) = self.nodes.get(at) else {
-                return Ok(());
+        self.list(first, NODES, |printer, node, left| {
+            let Node::Row(row, rest) = node else {
+                return Ok(None);
             };
-            self.say("(")?;
-            self.exprs(row, turn)?;
-            self.say(")")?;
-            if !self.comma(rest)? {
-                return Ok(());
-            }
-            at = rest;
-        }
-        Ok(())
+            printer.say("(")?;
+            printer.exprs(row, left)?;
+            printer.say(")")?;
+            Ok(Some(rest))
+        })
     }
 
     fn sets(&mut self, first: u16) -> Result<(), AllocError> {
-        let mut at = first;
-        for turn in (0..NODES).rev() {
-            let Node::Set(col, to, rest) = self.nodes.get(at) else {
-                return Ok(());
+        self.list(first, NODES, |printer, node, left| {
+            let Node::Set(col, to, rest) = node else {
+                return Ok(None);
             };
-            self.name(col)?;
-            self.within(" = ", to, "", turn)?;
-            if !self.comma(rest)? {
-                return Ok(());
-            }
-            at = rest;
-        }
-        Ok(())
+            printer.name(col)?;
+            printer.within(" = ", to, "", left)?;
+            Ok(Some(rest))
+        })
     }
 }
 
