@@ -2,6 +2,8 @@
 //
 // The number left falls with each call and with each item of a list, so that printing ends on any nodes; a read statement nests less
 // deep than it has nodes.
+ghost use Rattle.std.specs.Prelude.{ℕ, ◌<◌};
+
 use std::alloc::AllocError;
 use text::{Fold, Node, Nodes, Op, Question, Span, Statement, bytes_of, small_of};
 
@@ -92,14 +94,14 @@ impl<'a> Printer<'a> {
 }
 
 impl<'a> Printer<'a> {
-    // The items of a list, with commas: `item` prints one and answers where the next is. It may nest less deep than so many nodes.
+    // The items of a list, with commas: `item` prints one, which may nest as deep as the number it is given, and answers where the next is.
     fn list<F: FnMut(&mut Printer<'a>, Node, usize) -> Result<Option<u16>, AllocError>>(
         &mut self,
         first: u16,
         left: usize,
         mut item: F,
     ) -> Result<(), AllocError>
-        requires { F.IsAlwaysCallable item }
+        requires { (f : F) (printer : _) (node : _) (turn : ℕ) → turn < left → F.pre f printer node turn }
     {
         let mut at = first;
         for turn in (0..left).rev() {
@@ -162,34 +164,24 @@ impl<'a> Printer<'a> {
 
     #[cycle(printing)]
     fn exprs(&mut self, first: u16, left: usize) -> Result<(), AllocError> {
-        let mut at = first;
-        for turn in (0..left).rev() {
-            let Node::Item(e, rest) = self.nodes.get(at) else {
-                return Ok(());
+        self.list(first, left, |printer, node, turn| {
+            let Node::Item(e, rest) = node else {
+                return Ok(None);
             };
-            self.expr(e, turn)?;
-            if !self.comma(rest)? {
-                return Ok(());
-            }
-            at = rest;
-        }
-        Ok(())
+            printer.expr(e, turn)?;
+            Ok(Some(rest))
+        })
     }
 
     #[cycle(printing)]
     fn keys(&mut self, first: u16, left: usize) -> Result<(), AllocError> {
-        let mut at = first;
-        for turn in (0..left).rev() {
-            let Node::Key(e, down, rest) = self.nodes.get(at) else {
-                return Ok(());
+        self.list(first, left, |printer, node, turn| {
+            let Node::Key(e, down, rest) = node else {
+                return Ok(None);
             };
-            self.within("", e, if down { " desc" } else { "" }, turn)?;
-            if !self.comma(rest)? {
-                return Ok(());
-            }
-            at = rest;
-        }
-        Ok(())
+            printer.within("", e, if down { " desc" } else { "" }, turn)?;
+            Ok(Some(rest))
+        })
     }
 
     // A clause with a condition, left out where it is 1.
