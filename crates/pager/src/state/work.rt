@@ -383,6 +383,7 @@ impl Store for Pager {
 
 impl Pager {
     // A pager for a device of so many sectors, which it has yet to read. Whatever is done with it then, and whenever the power fails, it keeps to the model.
+    #[tactic(auto, using(crate::proofs::Stands::pager_whole))]
     pub fn open(heap: Global, size: u64) -> Result<Pager, AllocError>
         ensures opened { IfOk result (Opened size) }
         ensures memory { IfOk result (Memory size) }

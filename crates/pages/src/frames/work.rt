@@ -314,6 +314,7 @@ impl Frames {
 
 // Pages on a device of so many sectors that are yet to come up. Whatever is done with them then, and whenever the power fails, they keep to the model.
 // All memory is taken here.
+#[tactic(auto, using(crate::proofs::Ends::pages_whole, crate::proofs::Ends::takings))]
 pub fn open(heap: Global, size: u64) -> Result<Over<Pager, Frames>, AllocError>
     ensures opened { IfOk result (pages_engine.Opens size) }
     ensures memory { IfOk result (Takings size) }
@@ -325,8 +326,7 @@ pub fn open(heap: Global, size: u64) -> Result<Over<Pager, Frames>, AllocError>
 }
 
 // Where there is no room, what is to be kept is more than the device has room for by the stated sum.
-pub fn room_stands() -> u8
+#[tactic(auto, using(crate::proofs::Ends::room_stands))]
+pub fn room_stands()
     ensures { RoomStands }
-{
-    0
-}
+{}
