@@ -6,12 +6,12 @@ use Rattle.device.proofs.Sectors.{shown-calm}
 use Rattle.device.proofs.Standing.{Then}
 use Rattle.shadow.specs.Layout.{other, area_at, area_in, entry_in}
 use Rattle.shadow.proofs.Shadow.{Body, body-as, above_as, above_same}
-use Rattle.pager.specs.Steps.{Asking, bs, ws, os, ys, hs, FetchAt, LoadAt, CheckAt, CompareAt, PhaseAt}
+use Rattle.pager.specs.Steps.{Asking, bs, os, ys, hs, FetchAt, LoadAt, CheckAt, CompareAt, PhaseAt}
 use Rattle.pager.specs.Model.{Held}
 use Rattle.pager.specs.declared.state.Phase.{Phase}
 use Rattle.pager.specs.declared.state.Phase.TheVariants.{Opening, Header, Fetch, Loading, Check, Comparing, Idle, Asked, Short, Getting, Putting, Filling, Settled, Marked, Sealed}
 use Rattle.pager.specs.declared.state.Pager.{Pager}
-use Rattle.pager.proofs.Invariant.{Of, as-map, as-flags, view-moved, same_view, Fixed, lived-same, Stand, Off, Read-to, Compared, RisingAt, Rising, Ready}
+use Rattle.pager.proofs.Invariant.{Of, as-map, view-moved, same_view, Fixed, lived-same, Stand, Off, Read-to, Compared, RisingAt, Rising, Ready}
 
 module _ (N M S : ℕ) (few : N ≤ 64 * M) where
   module _ (s : Held) (m n : Pager) (g : List ℕ) (d : Device) (fixed : Fixed N M S few n) (off : Off N M S few s d) where
