@@ -4,7 +4,7 @@ ghost use Rattle.std.specs.Fmt.{signed_decimal};
 ghost use Rattle.console.specs.Text.{twice, doubled, quoted, cell_text, reply_text};
 
 use session::{Reply, Value};
-use std::alloc::{AllocError, Global};
+use std::alloc::AllocError;
 
 // A byte of a text: a quote is written twice.
 fn push_byte(out: &mut Vec<u8>, byte: u8) -> Result<(), AllocError>
@@ -37,25 +37,20 @@ pub fn push_text(out: &mut Vec<u8>, text: &[u8]) -> Result<(), AllocError>
     Ok(())
 }
 
-fn push_number(heap: Global, out: &mut Vec<u8>, number: i64) -> Result<(), AllocError>
+fn push_number(out: &mut Vec<u8>, number: i64) -> Result<(), AllocError>
     ensures { OnOk result (out.new.items ≡ out.old.items ++ signed_decimal number) }
 {
-    let digits = format!(in heap; "{number}")?;
+    let digits = format!(in *out.allocator(); "{number}")?;
     out.extend_from_slice(digits.as_bytes())
 }
 
 // A value of a row, and the bar after it.
-pub fn push_value(
-    heap: Global,
-    out: &mut Vec<u8>,
-    value: Value,
-    text: &[u8],
-) -> Result<(), AllocError>
+pub fn push_value(out: &mut Vec<u8>, value: Value, text: &[u8]) -> Result<(), AllocError>
     ensures { OnOk result (out.new.items ≡ out.old.items ++ cell_text value text.now) }
 {
     match value {
         Value::Null => out.extend_from_slice(b"null")?,
-        Value::Number(number) => push_number(heap, out, number)?,
+        Value::Number(number) => push_number(out, number)?,
         Value::Text => push_text(out, text)?,
     }
     out.push(b'|')?;
@@ -73,21 +68,17 @@ fn push_row(out: &mut Vec<u8>, row: &[u8]) -> Result<(), AllocError>
 }
 
 // The line that answers a call; the values of a row stand in `row`.
-pub fn push_reply(
-    heap: Global,
-    out: &mut Vec<u8>,
-    reply: Reply,
-    row: &[u8],
-) -> Result<(), AllocError>
+pub fn push_reply(out: &mut Vec<u8>, reply: Reply, row: &[u8]) -> Result<(), AllocError>
     ensures { OnOk result (out.new.items ≡ out.old.items ++ reply_text reply row.now) }
 {
     match reply {
-        Reply::No(number) => {
-            let line = format!(in heap; "no {number}\n")?;
+        Reply::No(refusal) => {
+            let number = u8::from(refusal);
+            let line = format!(in *out.allocator(); "no {number}\n")?;
             out.extend_from_slice(line.as_bytes())
         }
         Reply::Done(rows) => {
-            let line = format!(in heap; "done {rows}\n")?;
+            let line = format!(in *out.allocator(); "done {rows}\n")?;
             out.extend_from_slice(line.as_bytes())
         }
         Reply::Begun => out.extend_from_slice(b"begun\n"),

@@ -2,7 +2,7 @@
 use crate::answers::push_value;
 use device::Ask;
 use session::{Engine, Reply};
-use std::alloc::{AllocError, AllocFailed, Global};
+use std::alloc::{AllocError, AllocFailed};
 use std::io;
 
 // Why a call has no answer.
@@ -43,7 +43,6 @@ pub trait Disk {
 
 // Steps the engine until it answers; the values that it hands over stand in `row` then.
 pub fn answer<D: Disk>(
-    heap: Global,
     engine: &mut Engine,
     disk: &mut D,
     row: &mut Vec<u8>,
@@ -56,7 +55,7 @@ pub fn answer<D: Disk>(
             Ask::Write(sector) => disk.write(sector, engine.buffer())?,
             Ask::Sync => disk.sync()?,
             Ask::Again => {}
-            Ask::Hand(value) => push_value(heap, row, value, engine.shown())?,
+            Ask::Hand(value) => push_value(row, value, engine.shown())?,
             Ask::Answer(reply) => return Ok(reply),
         }
     }

@@ -8,6 +8,3 @@ pub mod drive;
 pub mod lines;
 
 pub use drive::{Disk, Stop};
-
-// The number of a size, for messages: bytes of a sector.
-pub const SECTOR: u64 = 512;

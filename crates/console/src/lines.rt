@@ -1,4 +1,5 @@
 // Lines of input, as bytes: a statement may hold any byte but a line feed.
+use crate::drive::Stop;
 use std::io;
 use std::io::BufRead;
 
@@ -7,15 +8,14 @@ pub const HELD: usize = 4097;
 
 // Takes the line's next part from what was read; how many bytes that were, and whether the line has ended.
 fn take_part(part: &[u8], line: &mut Vec<u8>) -> io::Result<(usize, bool)> {
-    for (i, byte) in part.iter().enumerate() {
-        if *byte == b'\n' {
-            return Ok((i + 1, true));
-        }
-        if line.len() < HELD {
-            line.push(*byte)?;
-        }
+    let end = part.iter().position(|byte| *byte == b'\n');
+    let text = &part[..end.unwrap_or(part.len())];
+    let room = HELD.saturating_sub(line.len());
+    line.extend_from_slice(&text[..room.min(text.len())])?;
+    match end {
+        Some(at) => Ok((at + 1, true)),
+        None => Ok((part.len(), false)),
     }
-    Ok((part.len(), false))
 }
 
 // Reads the next line, without its line feed, and no more of it than is held; false at the end of the input.
@@ -35,4 +35,21 @@ pub fn read_line<R: BufRead>(input: &mut R, line: &mut Vec<u8>) -> io::Result<bo
         }
     }
     Ok(any)
+}
+
+// Answers each line that is left, one after the other.
+pub fn for_each_line<R: BufRead, F: FnMut(&[u8]) -> Result<(), Stop>>(
+    input: &mut R,
+    line: &mut Vec<u8>,
+    mut answer: F,
+) -> Result<(), Stop>
+    requires { F.IsAlwaysCallable answer }
+{
+    for _ in 0..u64::MAX {
+        if !read_line(input, line)? {
+            return Ok(());
+        }
+        answer(line.as_slice())?;
+    }
+    Ok(())
 }

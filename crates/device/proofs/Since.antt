@@ -1,10 +1,13 @@
 -- One write more.
-use Rattle.std.proofs.Common.{◌≡◌, ℕ, zero, suc, ◌+◌, ◌-◌, ◌<◌, ◌≤◌, Bool, true, false, cond, eqb, ◌⊎◌, List, [], ◌∷◌, ◌++◌, length, get_or, take, set, replicate, sym, refl, ap, ◌∙◌, subst, inl, inr, arith, length-set, get_or-set_other, get_or-set_same, eq-eqb, ne_eqb}
+use Rattle.std.proofs.Common.{◌≡◌, ℕ, zero, suc, ◌+◌, ◌<◌, ◌≤◌, Bool, true, false, cond, eqb, ◌⊎◌, List, [], ◌∷◌, ◌++◌, length, get_or, take, replicate, ◌==◌, reverse, None, Some, Option, sym, refl, ap, ◌∙◌, subst, inl, inr, arith, eq-eqb, ne_eqb}
 use mathlib.Core.List.{Memᴰ}
 use Rattle.std.proofs.lemmas.Bool.{cases_eq, cases_lt}
-use Rattle.std.proofs.lemmas.List.{take_more, get_or_default}
+use Rattle.std.proofs.lemmas.List.{take_more, get_or_default, reverse-append}
+use Rattle.std.proofs.lemmas.List.Folds.{find-append}
+use Rattle.std.specs.List.{find}
+use Rattle.std.specs.Option.{option_or}
 use Rattle.device.specs.Device.{latest, zeros}
-use Rattle.device.specs.Vector.{since_of, Newest, Kept, Perhaps, Blanks}
+use Rattle.device.specs.Vector.{since_of, newest_of, Kept, KeptAll, KeptSome, Blanks}
 use Rattle.device.specs.declared.vector.Written.{Written}
 
 cond-append : (b : Bool) (x : List ℕ) (a c : List (List ℕ)) → cond b (x ∷ a) a ++ c ≡ cond b (x ∷ (a ++ c)) (a ++ c)
@@ -23,25 +26,6 @@ pub latest-cond : (b : Bool) (old x : List ℕ) (a : List (List ℕ)) → latest
 latest-cond true old x a = refl
 latest-cond false old x a = refl
 
-set_at : (xs : List (List ℕ)) (i s : ℕ) (v : List ℕ) → i < length xs → get_or (set xs i v) s [] ≡ cond (eqb s i) v (get_or xs s [])
-set_at xs i s v h =
-    elim (cases_eq s i) [
-      | inl e ↦ rw (eq-eqb s i e, e) (get_or-set_same xs i v [] h)
-      | inr n ↦ rw (ne_eqb s i n) (get_or-set_other xs i s v [] n)
-    ]
-
-pub kept_set : (xs : List (List ℕ)) (w : Written) (ys : List (List ℕ)) → ys ≡ set xs w.sector w.bytes → w.sector < length xs → Kept xs w ys
-kept_set xs w ys e h = record { long = ap length e ∙ simp length-set; items = λ s l. ap (λ y. get_or y s []) e ∙ set_at xs w.sector s w.bytes h }
-
-pub kept-none : (xs : List (List ℕ)) (w : Written) → length xs ≤ w.sector → Kept xs w xs
-kept-none xs w h = record { long = refl; items = λ s l. rw (ne_eqb s w.sector (λ e. omega arith)) refl }
-
-pub perhaps-kept : (xs : List (List ℕ)) (w : Written) (ys : List (List ℕ)) → Kept xs w ys → Perhaps xs w ys
-perhaps-kept xs w ys k = record { long = k.long; items = λ s l. inr (k.items s l) }
-
-pub perhaps-none : (xs : List (List ℕ)) (w : Written) → Perhaps xs w xs
-perhaps-none xs w = record { long = refl; items = λ s l. inl refl }
-
 -- the write's own sector goes by its own name in the device
 pub since-written : (s : ℕ) (ws : List Written) (x : ℕ) (b : List ℕ) → since_of s (ws ++ (record { sector = x; bytes = b } ∷ [])) ≡ cond (eqb s x) (b ∷ since_of x ws) (since_of s ws)
 since-written s ws x b =
@@ -56,29 +40,33 @@ module _ (xs₀ : List (List ℕ)) (ws : List Written) (i : ℕ) (w : Written) (
   latest-more s f q =
       ap (cond (eqb s w.sector) w.bytes) q ∙ sym (latest-cond (eqb s w.sector) (get_or xs₀ s []) w.bytes (since_of s (take i ws))) ∙ ap (latest (get_or xs₀ s [])) (sym (since-more s ws i w h e))
 
-  pub kept_more : (xs ys : List (List ℕ)) → Kept xs w ys → ((s : ℕ) → s < length xs → get_or xs s [] ≡ latest (get_or xs₀ s []) (since_of s (take i ws))) →
-      (s : ℕ) → s < length ys → get_or ys s [] ≡ latest (get_or xs₀ s []) (since_of s (take (i + 1) ws))
-  kept_more xs ys k ih s l = let l' : s < length xs = omega (arith, k.long) in k.items s l' ∙ latest-more s (get_or xs s []) (ih s l')
+  pub kept_more : (xs ys : List (List ℕ)) → Kept xs w ys → KeptAll xs₀ (take i ws) xs → KeptAll xs₀ (take (i + 1) ws) ys
+  kept_more xs ys k all = record { long = k.long ∙ all.long; items = λ s l. k.items s (omega (arith, all.long, l)) ∙ latest-more s (get_or xs s []) (all.items s l) }
 
-  same_at : (b : Bool) (y z old x : List ℕ) (bs : List (List ℕ)) → z ≡ y → (y ≡ old) ⊎ Memᴰ y bs → (z ≡ old) ⊎ Memᴰ z (cond b (x ∷ bs) bs)
-  same_at b y z old x bs q (inl p) = inl (q ∙ p)
-  same_at true y z old x bs q (inr m) = inr (Memᴰ.tail (subst (λ u. Memᴰ u bs) (sym q) m))
-  same_at false y z old x bs q (inr m) = inr (subst (λ u. Memᴰ u bs) (sym q) m)
+  same_at : (b : Bool) (y old x : List ℕ) (bs : List (List ℕ)) → (y ≡ old) ⊎ Memᴰ y bs → (y ≡ old) ⊎ Memᴰ y (cond b (x ∷ bs) bs)
+  same_at b y old x bs (inl p) = inl p
+  same_at true y old x bs (inr m) = inr (Memᴰ.tail m)
+  same_at false y old x bs (inr m) = inr m
 
-  new-at : (b : Bool) (y z old x : List ℕ) (bs : List (List ℕ)) → z ≡ cond b x y → (y ≡ old) ⊎ Memᴰ y bs → (z ≡ old) ⊎ Memᴰ z (cond b (x ∷ bs) bs)
-  new-at true y z old x bs q m = inr (Memᴰ.head q)
-  new-at false y z old x bs q m = same_at false y z old x bs q m
+  new_at : (b : Bool) (y z old x : List ℕ) (bs : List (List ℕ)) → z ≡ cond b x y → (y ≡ old) ⊎ Memᴰ y bs → (z ≡ old) ⊎ Memᴰ z (cond b (x ∷ bs) bs)
+  new_at true y z old x bs q m = inr (Memᴰ.head q)
+  new_at false y z old x bs q m = subst (λ u. (u ≡ old) ⊎ Memᴰ u bs) (sym q) m
 
-  some_at : (b : Bool) (y z old x : List ℕ) (bs : List (List ℕ)) → (z ≡ y) ⊎ (z ≡ cond b x y) → (y ≡ old) ⊎ Memᴰ y bs → (z ≡ old) ⊎ Memᴰ z (cond b (x ∷ bs) bs)
-  some_at b y z old x bs (inl q) m = same_at b y z old x bs q m
-  some_at b y z old x bs (inr q) m = new-at b y z old x bs q m
+  more : (s : ℕ) (f : List ℕ) → (f ≡ get_or xs₀ s []) ⊎ Memᴰ f (cond (eqb s w.sector) (w.bytes ∷ since_of s (take i ws)) (since_of s (take i ws))) → (f ≡ get_or xs₀ s []) ⊎ Memᴰ f (since_of s (take (i + 1) ws))
+  more s f m = subst (λ a. (f ≡ get_or xs₀ s []) ⊎ Memᴰ f a) (sym (since-more s ws i w h e)) m
 
-  pub some_more : (xs ys : List (List ℕ)) → Perhaps xs w ys → ((s : ℕ) → s < length xs → (get_or xs s [] ≡ get_or xs₀ s []) ⊎ Memᴰ (get_or xs s []) (since_of s (take i ws))) →
-      (s : ℕ) → s < length ys → (get_or ys s [] ≡ get_or xs₀ s []) ⊎ Memᴰ (get_or ys s []) (since_of s (take (i + 1) ws))
-  some_more xs ys k ih s l =
-      let l' : s < length xs = omega (arith, k.long) in
-      subst (λ a. (get_or ys s [] ≡ get_or xs₀ s []) ⊎ Memᴰ (get_or ys s []) a) (sym (since-more s ws i w h e))
-      (some_at (eqb s w.sector) (get_or xs s []) (get_or ys s []) (get_or xs₀ s []) w.bytes (since_of s (take i ws)) (k.items s l') (ih s l'))
+  pub some_more : (xs ys : List (List ℕ)) → Kept xs w ys → KeptSome xs₀ (take i ws) xs → KeptSome xs₀ (take (i + 1) ws) ys
+  some_more xs ys k some =
+      record {
+        long = k.long ∙ some.long;
+        items = λ s l. more s (get_or ys s []) (new_at (eqb s w.sector) (get_or xs s []) (get_or ys s []) (get_or xs₀ s []) w.bytes (since_of s (take i ws)) (k.items s (omega (arith, some.long, l))) (some.items s l));
+      }
+
+  not-kept : (xs : List (List ℕ)) → KeptSome xs₀ (take i ws) xs → KeptSome xs₀ (take (i + 1) ws) xs
+  not-kept xs some = record { long = some.long; items = λ s l. more s (get_or xs s []) (same_at (eqb s w.sector) (get_or xs s []) (get_or xs₀ s []) w.bytes (since_of s (take i ws)) (some.items s l)) }
+
+pub some-same : (xs₀ : List (List ℕ)) (ws : List Written) (i : ℕ) → i < length ws → (xs : List (List ℕ)) → KeptSome xs₀ (take i ws) xs → KeptSome xs₀ (take (i + 1) ws) xs
+some-same xs₀ ws i h xs some = let w = get_or ws i (record { sector = 0; bytes = [] }) in not-kept xs₀ ws i w h (get_or_default ws i _ w h) xs some
 
 pub blanks-push : (xs : List (List ℕ)) → Blanks xs → Blanks (xs ++ (replicate 512 0 ∷ []))
 blanks-push [] b = (refl, tt)
@@ -100,24 +88,39 @@ past (x ∷ xs) zero h = absurd (omega arith)
 past (x ∷ xs) (suc s) h = past xs s (omega arith)
 
 -- past the end nothing is held, before and after
-pub each_all : (xs ys : List (List ℕ)) (ws : List Written) → length ys ≡ length xs → ((s : ℕ) → s < length ys → (get_or ys s [] ≡ get_or xs s []) ⊎ Memᴰ (get_or ys s []) (since_of s ws)) →
-    (s : ℕ) → (get_or ys s [] ≡ get_or xs s []) ⊎ Memᴰ (get_or ys s []) (since_of s ws)
-each_all xs ys ws e f s = elim (cases_lt s (length ys)) [ inl h ↦ f s h | inr h ↦ inl (past ys s h ∙ sym (past xs s (omega (arith, e, h)))) ]
+pub each_all : (xs ys : List (List ℕ)) (ws : List Written) → KeptSome xs ws ys → (s : ℕ) → (get_or ys s [] ≡ get_or xs s []) ⊎ Memᴰ (get_or ys s []) (since_of s ws)
+each_all xs ys ws k s = elim (cases_lt s (length xs)) [ inl h ↦ k.items s h | inr h ↦ inl (past ys s (omega (arith, k.long, h)) ∙ sym (past xs s h)) ]
 
 -- LOOKING FOR THE LAST WRITE TO A SECTOR
-module _ (s : ℕ) (ws : List Written) (at : ℕ) (w : Written) (h : 0 < at) (l : at ≤ length ws) (e : w ≡ get_or ws (at - 1) w) where
-  up_to : since_of s (take at ws) ≡ cond (eqb s w.sector) (w.bytes ∷ since_of s (take (at - 1) ws)) (since_of s (take (at - 1) ws))
-  up_to = let z : at - 1 + 1 ≡ at = omega arith in subst (λ k. since_of s (take k ws) ≡ cond (eqb s w.sector) (w.bytes ∷ since_of s (take (at - 1) ws)) (since_of s (take (at - 1) ws))) z (since-more s ws (at - 1) w (omega arith) e)
+latest-append : (old : List ℕ) (a b : List (List ℕ)) → latest old (a ++ b) ≡ latest (latest old b) a
+latest-append old [] b = refl
+latest-append old (x ∷ a) b = refl
 
-  pub passed-by : (w.sector ≡ s → ⊥) → since_of s (take at ws) ≡ since_of s ws → since_of s (take (at - 1) ws) ≡ since_of s ws
-  passed-by n q = sym (up_to ∙ rw (ne_eqb s w.sector (λ z. n (sym z))) refl) ∙ q
+-- what the last write left, or what was kept before
+abbrev left : List ℕ → Option Written → List ℕ
+left old None = old
+left old (Some w) = w.bytes
 
-  pub newest-at : w.sector ≡ s → since_of s (take at ws) ≡ since_of s ws → Newest s ws at
-  newest-at n q =
-      record {
-        few = l;
-        none = λ z. absurd (omega arith);
-        last = λ v p d.
-            let same : v ≡ w = d ∙ get_or_default ws (at - 1) v w (omega arith) ∙ sym e in
-            subst (λ x. since_of s ws ≡ x.bytes ∷ since_of s (take (at - 1) ws)) (sym same) (sym q ∙ up_to ∙ rw (eq-eqb s w.sector (sym n)) refl);
-      }
+-- the first write is looked for last
+looked_last : (s : ℕ) (old : List ℕ) (w : Written) (o : Option Written) →
+    left (latest old (cond (s == w.sector) (w.bytes ∷ []) [])) o ≡ left old (option_or o (find (λ v. v.sector == s) (w ∷ [])))
+looked_last s old w (Some v) = refl
+looked_last s old w None =
+    elim (cases_eq s w.sector) [
+      | inl e ↦ rw (eq-eqb s w.sector e, eq-eqb w.sector s (sym e)) refl
+      | inr n ↦ rw (ne_eqb s w.sector n, ne_eqb w.sector s (λ e. n (sym e))) refl
+    ]
+
+newest-is : (s : ℕ) (old : List ℕ) (ws : List Written) → latest old (since_of s ws) ≡ left old (newest_of s ws)
+newest-is s old [] = refl
+newest-is s old (w ∷ ws) =
+    latest-append old (since_of s ws) (cond (s == w.sector) (w.bytes ∷ []) [])
+    ∙ newest-is s (latest old (cond (s == w.sector) (w.bytes ∷ []) [])) ws
+    ∙ looked_last s old w (find (λ v. v.sector == s) (reverse ws))
+    ∙ ap (left old) (sym (ap (find (λ v. v.sector == s)) (reverse-append (w ∷ []) ws) ∙ find-append (λ v. v.sector == s) (reverse ws) (w ∷ [])))
+
+pub found_some : (s : ℕ) (old : List ℕ) (ws : List Written) (w : Written) → newest_of s ws ≡ Some w → w.bytes ≡ latest old (since_of s ws)
+found_some s old ws w e = sym (newest-is s old ws ∙ ap (left old) e)
+
+pub found_none : (s : ℕ) (old : List ℕ) (ws : List Written) → newest_of s ws ≡ None → old ≡ latest old (since_of s ws)
+found_none s old ws e = sym (newest-is s old ws ∙ ap (left old) e)

@@ -1,6 +1,8 @@
 -- The device that a vector holds.
-use Rattle.std.specs.Prelude.{◌≡◌, ℕ, ◌-◌, ◌<◌, ◌≤◌, cond, ◌⊎◌, List, [], ◌∷◌, ◌++◌, length, take, replicate, vec_items, vec_len, ◌==◌, slice_index_or}
-use Rattle.device.specs.Device.{Device, zeros}
+use Rattle.std.specs.Prelude.{◌≡◌, ℕ, Option, reverse, ◌<◌, cond, ◌⊎◌, List, [], ◌∷◌, ◌++◌, length, replicate, vec_items, vec_len, ◌==◌, slice_index_or}
+use mathlib.Core.List.{Memᴰ}
+use Rattle.std.specs.List.{find}
+use Rattle.device.specs.Device.{Device, latest, zeros}
 use Rattle.device.specs.declared.vector.Written.{Written}
 use Rattle.device.specs.declared.vector.Vector.{Vector}
 
@@ -9,20 +11,24 @@ abbrev pub since_of : ℕ → List Written → List (List ℕ)
 since_of s [] = []
 since_of s (w ∷ ws) = since_of s ws ++ cond (s == w.sector) (w.bytes ∷ []) []
 
--- the first r writes have the last one to a sector at their end, or there is none
-pub record Newest (s : ℕ) (ws : List Written) (r : ℕ) : Type 0 where
-  pub few : r ≤ length ws
-  pub none : r ≡ 0 → since_of s ws ≡ []
-  pub last : (w : Written) → 0 < r → w ≡ slice_index_or ws (r - 1) w → since_of s ws ≡ w.bytes ∷ since_of s (take (r - 1) ws)
+-- the last write to a sector, if there was any
+abbrev pub newest_of : ℕ → List Written → Option Written
+newest_of s ws = find (λ w. w.sector == s) (reverse ws)
 
 -- a write is kept, if its sector is there
 pub record Kept (xs : List (List ℕ)) (w : Written) (ys : List (List ℕ)) : Type 0 where
   pub long : length ys ≡ length xs
   pub items : (s : ℕ) → s < length xs → slice_index_or ys s [] ≡ cond (s == w.sector) w.bytes (slice_index_or xs s [])
 
-pub record Perhaps (xs : List (List ℕ)) (w : Written) (ys : List (List ℕ)) : Type 0 where
+-- writes are kept in their order: of each sector the latest
+pub record KeptAll (xs : List (List ℕ)) (ws : List Written) (ys : List (List ℕ)) : Type 0 where
   pub long : length ys ≡ length xs
-  pub items : (s : ℕ) → s < length xs → (slice_index_or ys s [] ≡ slice_index_or xs s []) ⊎ (slice_index_or ys s [] ≡ cond (s == w.sector) w.bytes (slice_index_or xs s []))
+  pub items : (s : ℕ) → s < length xs → slice_index_or ys s [] ≡ latest (slice_index_or xs s []) (since_of s ws)
+
+-- each sector is as it was, or holds what one of the writes put there
+pub record KeptSome (xs : List (List ℕ)) (ws : List Written) (ys : List (List ℕ)) : Type 0 where
+  pub long : length ys ≡ length xs
+  pub items : (s : ℕ) → s < length xs → (slice_index_or ys s [] ≡ slice_index_or xs s []) ⊎ Memᴰ (slice_index_or ys s []) (since_of s ws)
 
 abbrev pub device_of : Vector → Device
 device_of v = record { kept = λ s. slice_index_or (vec_items v.kept) s []; since = λ s. since_of s (vec_items v.since) }

@@ -1,7 +1,8 @@
 // A device in memory, for rehearsals: its sectors in a vector, and what was written since the last sync.
-ghost use Rattle.std.specs.Prelude.{◌≡◌, ℕ, ◌<◌, [], IfOk, vec_len, OnOk};
+ghost use Rattle.std.specs.Option.{option_map};
+ghost use Rattle.std.specs.Prelude.{◌≡◌, ℕ, ◌<◌, IfOk, vec_len, OnOk};
 ghost use Rattle.device.specs.Device.{shown, written, synced, AfterCut};
-ghost use Rattle.device.specs.Vector.{device_of, Agrees, Blank, Kept, Perhaps, Newest};
+ghost use Rattle.device.specs.Vector.{device_of, Agrees, Blank, Kept, KeptAll, KeptSome, newest_of};
 
 use std::alloc::{AllocError, Global};
 
@@ -17,38 +18,44 @@ pub struct Vector {
     since: Vec<Written>,
 }
 
-// How many writes there are up to the last one to a sector; 0 where there is none.
-fn newest(since: &Vec<Written>, sector: usize) -> usize
-    ensures { Newest sector since.now.items result }
+// The last write to a sector, if there was any.
+fn newest(since: &[Written], sector: usize) -> Option<&Written>
+    ensures { option_map (λ w. w.now) result ≡ newest_of sector since.now }
 {
-    let mut at = since.len();
-    while at > 0 {
-        let w = &since[at - 1];
-        if w.sector == sector {
-            return at;
-        }
-        at -= 1;
-    }
-    0
+    since.iter().rev().find(|w| w.sector == sector)
 }
 
 // Keeps a write to a sector that is there.
-fn keep(kept: &mut Vec<[u8; 512]>, w: Written)
-    ensures { Kept kept.old.items w kept.new.items }
+fn keep(kept: &mut [[u8; 512]], w: &Written)
+    ensures { Kept kept.old w.now kept.new }
 {
-    let at = w.sector;
     let bytes = w.bytes;
-    if at < kept.len() {
-        kept[at] = bytes;
+    if w.sector < kept.len() {
+        kept[w.sector] = bytes;
     }
 }
 
-// Keeps it, or not.
-fn keep_some(kept: &mut Vec<[u8; 512]>, w: Written, chosen: bool)
-    ensures { Perhaps kept.old.items w kept.new.items }
+// Keeps writes in their order.
+fn keep_all(kept: &mut [[u8; 512]], since: &[Written])
+    ensures { KeptAll kept.old since.now kept.new }
 {
-    if chosen {
+    for w in since {
         keep(kept, w);
+    }
+}
+
+// Keeps those of the writes that the seed chooses.
+fn keep_some(kept: &mut [[u8; 512]], since: &[Written], seed: u64)
+    ensures { KeptSome kept.old since.now kept.new }
+{
+    let mut state = seed;
+    for w in since {
+        state = state
+            .wrapping_mul(6364136223846793005)
+            .wrapping_add(1442695040888963407);
+        if state / 9223372036854775808 == 1 {
+            keep(kept, w);
+        }
     }
 }
 
@@ -71,15 +78,11 @@ impl Vector {
     pub fn read(&self, sector: usize) -> [u8; 512]
         ensures { sector < vec_len self.now.kept → result ≡ shown (device_of self.now) sector }
     {
-        let at = newest(&self.since, sector);
-        if at > 0 && at <= self.since.len() {
-            let w = self.since[at - 1];
-            return w.bytes;
+        match newest(&self.since, sector) {
+            Some(w) => w.bytes,
+            None if sector < self.kept.len() => self.kept[sector],
+            None => [0; 512],
         }
-        if sector < self.kept.len() {
-            return self.kept[sector];
-        }
-        [0; 512]
     }
 
     pub fn write(&mut self, sector: usize, bytes: &[u8; 512]) -> Result<(), AllocError>
@@ -97,10 +100,7 @@ impl Vector {
         ensures size { vec_len self.new.kept ≡ vec_len self.old.kept }
         ensures is { Agrees self.new (synced (device_of self.old)) }
     {
-        for i in 0..self.since.len() {
-            let w = self.since[i];
-            keep(&mut self.kept, w);
-        }
+        keep_all(&mut self.kept, &self.since);
         self.since.clear();
     }
 
@@ -109,14 +109,7 @@ impl Vector {
         ensures size { vec_len self.new.kept ≡ vec_len self.old.kept }
         ensures is { AfterCut (device_of self.old) (device_of self.new) }
     {
-        let mut state = seed;
-        for i in 0..self.since.len() {
-            state = state
-                .wrapping_mul(6364136223846793005)
-                .wrapping_add(1442695040888963407);
-            let w = self.since[i];
-            keep_some(&mut self.kept, w, state / 9223372036854775808 == 1);
-        }
+        keep_some(&mut self.kept, &self.since, seed);
         self.since.clear();
     }
 }

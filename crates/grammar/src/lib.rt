@@ -5,15 +5,11 @@
 ghost use Rattle.grammar.specs.Readings.{OneReading, CanTell};
 
 // At most one statement is a text.
-pub fn one_reading() -> u8
+pub fn one_reading()
     ensures { OneReading }
-{
-    0
-}
+{}
 
 // Whether a text is a statement can be told.
-pub fn can_tell() -> u8
+pub fn can_tell()
     ensures { CanTell }
-{
-    0
-}
+{}

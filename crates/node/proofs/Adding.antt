@@ -2,8 +2,8 @@
 use Rattle.std.proofs.Common.{◌≡◌, ℕ, zero, suc, ◌+◌, ◌-◌, ◌*◌, ◌/◌, ◌%◌, ◌<◌, ◌≤◌, min, ◌≢◌, ◌⊎◌, List, [], ◌∷◌, ◌++◌, length, get_or, set, replicate, sym, refl, ap, ◌∙◌, subst, inl, inr, add-one, arith, length-append, length-set, get_or-set_other, get_or-set_same}
 use lib.ListN.{length-replicate}
 use Rattle.std.proofs.lemmas.List.{places}
-use Rattle.octets.specs.Parts.{part, put, pair, pair_of}
-use Rattle.octets.proofs.Parts.{length-put, put-put, get_or-before, get_or-behind, get_or-inside, part-from, part-agrees, zeros-at}
+use Rattle.octets.specs.Parts.{part, put, put_in, pair, pair_of}
+use Rattle.octets.proofs.Parts.{length-put, length-put_in, put_in-fits, put-put, get_or-before, get_or-behind, get_or-inside, part-from, part-agrees, replicate-at}
 use Rattle.std.proofs.lemmas.Bool.{cases_lt}
 use Rattle.node.proofs.Places.{starts-rise, start_first, start-later, start-least}
 use Rattle.node.specs.Node.{count_in, start_of, key_len, key_at, value_at, entry_at, entries_to, Formed, Cleared, Written, Added}
@@ -201,9 +201,18 @@ module _ (page key value next : List ℕ) (n at : ℕ) (f : Formed page n) (begi
 
 -- the five writes of the code
 pub written-by : (page key value p1 p2 q3 q4 q5 : List ℕ) (n at end : ℕ) → length page ≡ 4096 → 8 ≤ at → end ≡ at + 2 + length key + length value → at + (2 + (length key + length value)) + 2 * (n + 1) ≤ 4096 →
-    p1 ≡ put page at (pair_of (length key)) → p2 ≡ put p1 (at + 2) key → q3 ≡ put p2 (at + 2 + length key) value → q4 ≡ put q3 (4096 - 2 * (n + 1)) (pair_of end) → q5 ≡ put q4 2 (pair_of (n + 1)) →
+    p1 ≡ put_in page at (pair_of (length key)) → p2 ≡ put_in p1 (at + 2) key → q3 ≡ put_in p2 (at + 2 + length key) value → q4 ≡ put_in q3 (4096 - 2 * (n + 1)) (pair_of end) → q5 ≡ put_in q4 2 (pair_of (n + 1)) →
     Written page n at key value q5
 written-by page key value p1 p2 q3 q4 q5 n at end long first is room a b d e f =
+    let l1 : length p1 ≡ 4096 = ap length a ∙ length-put_in page (pair_of (length key)) at ∙ long in
+    let l2 : length p2 ≡ 4096 = ap length b ∙ length-put_in p1 key (at + 2) ∙ l1 in
+    let l3 : length q3 ≡ 4096 = ap length d ∙ length-put_in p2 value (at + 2 + length key) ∙ l2 in
+    let l4 : length q4 ≡ 4096 = ap length e ∙ length-put_in q3 (pair_of end) (4096 - 2 * (n + 1)) ∙ l3 in
+    let a : p1 ≡ put page at (pair_of (length key)) = a ∙ put_in-fits page (pair_of (length key)) at (omega arith) in
+    let b : p2 ≡ put p1 (at + 2) key = b ∙ put_in-fits p1 key (at + 2) (omega arith) in
+    let d : q3 ≡ put p2 (at + 2 + length key) value = d ∙ put_in-fits p2 value (at + 2 + length key) (omega arith) in
+    let e : q4 ≡ put q3 (4096 - 2 * (n + 1)) (pair_of end) = e ∙ put_in-fits q3 (pair_of end) (4096 - 2 * (n + 1)) (omega arith) in
+    let f : q5 ≡ put q4 2 (pair_of (n + 1)) = f ∙ put_in-fits q4 (pair_of (n + 1)) 2 (omega arith) in
     let two = put-put page (pair_of (length key)) key at (at + 2) refl (omega arith) in
     let three =
     put-put page (pair_of (length key) ++ key) value at (at + 2 + length key) (omega arith) (omega arith) in
@@ -216,7 +225,7 @@ written-by page key value p1 p2 q3 q4 q5 n at end long first is room a b d e f =
 pub cleared : (level mark : ℕ) (page zeroed : List ℕ) → length page ≡ 4096 → zeroed ≡ replicate (length page) 0 → mark ≡ min (level + 1) 255 → Cleared level (set zeroed 0 mark)
 cleared level mark page zeroed l e h =
     let z : length zeroed ≡ 4096 = ap length e ∙ length-replicate (length page) 0 ∙ l in
-    let at : (k : ℕ) → 0 < k → get_or (set zeroed 0 mark) k 0 ≡ 0 = λ k p. let ne : k ≢ 0 = (λ q. omega arith) in rw get_or-set_other (ap (λ xs. get_or xs k 0) e ∙ zeros-at (length page) k) in
+    let at : (k : ℕ) → 0 < k → get_or (set zeroed 0 mark) k 0 ≡ 0 = λ k p. let ne : k ≢ 0 = (λ q. omega arith) in rw get_or-set_other (ap (λ xs. get_or xs k 0) e ∙ replicate-at 0 (length page) k) in
     let none : count_in (set zeroed 0 mark) ≡ 0 = let a = at 2 (omega arith) in let b = at 3 (omega arith) in omega arith in
     let lt : 0 < length zeroed = omega arith in
     let first : get_or (set zeroed 0 mark) 0 0 ≡ mark = rw get_or-set_same in

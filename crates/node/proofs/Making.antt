@@ -1,5 +1,6 @@
 -- A page of a joiner put in the place of another.
-use Rattle.std.proofs.Common.{◌≡◌, ℕ, zero, suc, ◌+◌, ◌-◌, ◌<◌, ◌≤◌, Bool, true, false, cond, ltb, leb, ◌≢◌, ◌⊎◌, List, [], ◌∷◌, ◌++◌, length, get_or, set, sym, refl, ap, ◌∙◌, subst, inl, inr, append_assoc, append-nil, add-one, arith, get_or-set_other, get_or-set_same}
+use Rattle.std.proofs.Common.{Result, Ok, Err, is_ok, ◌≡◌, ℕ, zero, suc, ◌+◌, ◌-◌, ◌<◌, ◌≤◌, Bool, true, false, cond, ltb, leb, ◌≢◌, ◌⊎◌, List, [], ◌∷◌, ◌++◌, length, get_or, set, sym, refl, ap, ◌∙◌, subst, inl, inr, append_assoc, append-nil, add-one, arith, get_or-set_other, get_or-set_same}
+use Rattle.std.specs.Bool.{⊤}
 use Rattle.std.proofs.lemmas.Bool.{cases_lt, lt-ltb, le-ltb, le-leb, lt-leb}
 use Rattle.tree.specs.Entries.{Entry}
 use Rattle.tree.specs.Pages.{Page, weigh}
@@ -9,7 +10,9 @@ use Rattle.tree.proofs.Joins.{weigh-append}
 use Rattle.node.proofs.Places.{start-least}
 use Rattle.node.proofs.Weights.{weighs}
 use Rattle.node.specs.Node.{count_in, entry_at, entries_to, entries_from, entries_in, Formed, Cleared, Pushed}
-use Rattle.node.specs.Joiner.{pages_to, on_last, on_last_all, spare, join_on}
+use Rattle.node.specs.declared.Full.{Full}
+use Rattle.node.specs.declared.joiner.Joiner.{Joiner}
+use Rattle.node.specs.Joiner.{pages_of, JoinedBy, pages_to, on_last, on_last_all, spare, join_on}
 
 module _ (ps : List (List ℕ)) (n : ℕ) (x : List ℕ) (h : n < length ps) where
   pages-before : (m : ℕ) → m ≤ n → pages_to (set ps n x) m ≡ pages_to ps m
@@ -65,29 +68,29 @@ module _ (ps : List (List ℕ)) (len : ℕ) (key value page next : List ℕ) (so
   pub formed-page : Formed page (count_in page)
   formed-page = subst (λ q. Formed q (count_in q)) (sym is) (s (len - 1) (omega arith))
 
-  pages-pushed : (r : Bool) → Pushed page key value r next → pages_to (set ps (len - 1) next) len ≡ cond r (on_last (record { key = key; value = value }) (pages_to ps len)) (pages_to ps len)
-  pages-pushed true (w, a) =
+  pages-pushed : (r : Result ⊤ Full) → Pushed page key value r next → pages_to (set ps (len - 1) next) len ≡ cond (is_ok r) (on_last (record { key = key; value = value }) (pages_to ps len)) (pages_to ps len)
+  pages-pushed (Ok u) (w, a) =
       pages-next ∙ ap (λ q. pages_to ps (len - 1) ++ (q ∷ [])) a.entries ∙ sym (on-last (record { key = key; value = value }) (pages_to ps (len - 1)) (entries_in page)) ∙ ap (on_last (record { key = key; value = value })) (sym pages-last)
-  pages-pushed false (w, e) = pages-next ∙ ap (λ q. pages_to ps (len - 1) ++ (entries_in q ∷ [])) e ∙ sym pages-last
+  pages-pushed (Err f) (w, e) = pages-next ∙ ap (λ q. pages_to ps (len - 1) ++ (entries_in q ∷ [])) e ∙ sym pages-last
 
-  formed-pushed : (r : Bool) → Pushed page key value r next → (i : ℕ) → i < len → Formed (get_or (set ps (len - 1) next) i []) (count_in (get_or (set ps (len - 1) next) i []))
-  formed-pushed true (w, a) = formed-next a.formed
-  formed-pushed false (w, e) = formed-next (subst (λ q. Formed q (count_in q)) (sym e) formed-page)
+  formed-pushed : (r : Result ⊤ Full) → Pushed page key value r next → (i : ℕ) → i < len → Formed (get_or (set ps (len - 1) next) i []) (count_in (get_or (set ps (len - 1) next) i []))
+  formed-pushed (Ok u) (w, a) = formed-next a.formed
+  formed-pushed (Err f) (w, e) = formed-next (subst (λ q. Formed q (count_in q)) (sym e) formed-page)
 
   pub spare-page : spare (pages_to ps len) ≡ 4088 - weigh taken (entries_in page)
   spare-page = ap spare pages-last ∙ spare-last (pages_to ps (len - 1)) (entries_in page)
 
-  crowded : (r : Bool) → Pushed page key value r next → r ≡ false → spare (pages_to ps len) < 4 + (length key + length value)
-  crowded true p e = absurd (clash (sym e))
-  crowded false (w, q) e = omega (arith, spare-page, weighs page formed-page, w)
+  crowded : (r : Result ⊤ Full) → Pushed page key value r next → is_ok r ≡ false → spare (pages_to ps len) < 4 + (length key + length value)
+  crowded (Ok u) p e = absurd (clash (sym e))
+  crowded (Err f) (w, q) e = omega (arith, spare-page, weighs page formed-page, w)
 
   -- all that holds after it
-  pub record PushedOn (r : Bool) : Type 0 where
+  pub record PushedOn (r : Result ⊤ Full) : Type 0 where
     pub formed : (i : ℕ) → i < len → Formed (get_or (set ps (len - 1) next) i []) (count_in (get_or (set ps (len - 1) next) i []))
-    pub pages : pages_to (set ps (len - 1) next) len ≡ cond r (on_last (record { key = key; value = value }) (pages_to ps len)) (pages_to ps len)
-    pub crowd : r ≡ false → spare (pages_to ps len) < 4 + (length key + length value)
+    pub pages : pages_to (set ps (len - 1) next) len ≡ cond (is_ok r) (on_last (record { key = key; value = value }) (pages_to ps len)) (pages_to ps len)
+    pub crowd : is_ok r ≡ false → spare (pages_to ps len) < 4 + (length key + length value)
 
-  pub pushed-on : (r : Bool) → Pushed page key value r next → PushedOn r
+  pub pushed-on : (r : Result ⊤ Full) → Pushed page key value r next → PushedOn r
   pushed-on r p = record { formed = formed-pushed r p; pages = pages-pushed r p; crowd = crowded r p }
 
 -- JOINING A UNIT
@@ -138,6 +141,10 @@ module _ (ps qs rs : List Page) (e : Entry) (r : Bool) (small : taken e ≤ 4088
 
   pub joined_by : rs ≡ join_on taken 4088 (e ∷ []) ps
   joined_by = pushed ∙ ap (λ t. cond t (on_last e qs) qs) was-pushed ∙ ap (on_last e) reserved ∙ joined-one e ps
+
+pub joined-ok : (j : Joiner) (q : Page) (r : Result ⊤ Full) (k : Joiner) → is_ok r ≡ true → pages_of k ≡ join_on taken 4088 q (pages_of j) → JoinedBy j q r k
+joined-ok j q (Ok u) k t e = e
+joined-ok j q (Err f) k t e = absurd (clash t)
 
 -- PUSHING ENTRIES ONE AFTER ANOTHER
 -- an entry takes its weight of what the last page has to spare

@@ -1,5 +1,5 @@
 -- Where the keys of a page rise, what a look at the list of its entries finds stands at a place that halving gives.
-use Rattle.std.proofs.Common.{◌≡◌, ℕ, zero, suc, ◌+◌, ◌-◌, ◌<◌, ◌≤◌, Bool, true, false, cond, not, ltb, List, [], ◌∷◌, ◌++◌, sym, refl, ap, ◌∙◌, subst, inl, inr, arith}
+use Rattle.std.proofs.Common.{◌≡◌, ℕ, zero, suc, ◌+◌, ◌-◌, ◌<◌, ◌≤◌, Bool, true, false, cond, not, ltb, ◌⊎◌, List, [], ◌∷◌, ◌++◌, sym, refl, ap, ◌∙◌, subst, inl, inr, arith}
 use Rattle.std.proofs.lemmas.Bool.{cases_lt, lt-ltb, le-ltb}
 use Rattle.std.proofs.lemmas.Bool.Decides.{nat_tests}
 use Rattle.meaning.specs.Value.{less_bytes}
@@ -76,7 +76,7 @@ module _ (page k : List ℕ) (r : ℕ) (p : Parted page (k ++ (0 ∷ [])) (count
   unfolding entries_from
   all-entries = entries_from_lem page (count_in page) ∙ (let e : count_in page ≡ suc (count_in page - 1) = omega arith in ap (entries_from page 0) e)
 
-  pub picked-some : 0 < r → Picked page k (r - 1)
+  picked-some : 0 < r → Picked page k (r - 1)
   unfolding child next_in
   picked-some h =
       let f = p.few in
@@ -87,7 +87,7 @@ module _ (page k : List ℕ) (r : ℕ) (p : Parted page (k ++ (0 ∷ [])) (count
         next = ap (next_in k) all-entries ∙ next-at page k (count_in page) r low high 1 (count_in page - 1) (omega arith) (omega arith) f ∙ ap (key_from page) (sym e);
       }
 
-  pub picked_none : r ≡ 0 → Picked page k 0
+  picked_none : r ≡ 0 → Picked page k 0
   unfolding child next_in
   picked_none h =
       let above : (j : ℕ) → 1 ≤ j → j < count_in page → less_bytes k (key_at page j) ≡ true = (λ j l m. high j (omega arith) m) in
@@ -96,3 +96,10 @@ module _ (page k : List ℕ) (r : ℕ) (p : Parted page (k ++ (0 ∷ [])) (count
         leads = ap (child pick k) all-entries ∙ ap (λ (x : Entry). x.value) (pick_first page k (count_in page) r low high 0 (count_in page - 1) (omega arith) (omega arith));
         next = ap (next_in k) all-entries ∙ next-first page k (count_in page) 1 (count_in page - 1) (omega arith) above;
       }
+
+  pub picked : (i : ℕ) → i ≡ r - 1 → Picked page k i
+  picked i e = go (cases_lt 0 r)
+    where
+      go : (0 < r) ⊎ (r ≤ 0) → Picked page k i
+      go (inl h) = subst (Picked page k) (sym e) (picked-some h)
+      go (inr h) = let z : 0 ≡ i = omega arith in subst (Picked page k) z (picked_none (omega arith))

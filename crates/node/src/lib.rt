@@ -2,14 +2,14 @@
 // garbled is read without harm. It stands on `octets`, and what its entries are is said by `tree`.
 #![tactic(auto)]
 
-ghost use Rattle.std.specs.Prelude.{◌≡◌, ℕ, ◌+◌, ◌*◌, ◌<◌, ◌≤◌, List, [], ◌∷◌, ◌++◌, length};
+ghost use Rattle.std.specs.Prelude.{◌≡◌, ℕ, ◌+◌, ◌*◌, ◌<◌, ◌≤◌, Bool, List, [], ◌∷◌, ◌++◌, length};
 ghost use Rattle.octets.specs.Parts.{pair};
 ghost use Rattle.tree.specs.Bytes.{taken};
 ghost use Rattle.tree.specs.Pages.{weigh};
-ghost use Rattle.node.specs.Look.{Picked};
-ghost use Rattle.node.specs.Node.{count_in, start_of, key_at, value_at, entry_at, entries_in, Formed, Sorted, Parted, Cleared, Written, Pushed};
+ghost use Rattle.node.specs.Look.{Picked, Tells, Falls, Halved};
+ghost use Rattle.node.specs.Node.{count_in, start_of, key_at, value_at, entry_at, entries_in, lies, Formed, Whole, Sorted, Parted, Cleared, Written, Pushed};
 
-use octets::{copy_in, fill_zero, less, pair_at, part_of, put_pair};
+use octets::{fill_zero, get_u16, less, part_of, put_bytes, put_u16};
 
 pub mod joiner;
 
@@ -18,89 +18,119 @@ pub const PAGE: usize = 4096;
 
 const FIRST: usize = 8;
 
-// How many entries a page says it has.
-pub fn count(page: &[u8; 4096]) -> usize
-    ensures { result ≡ count_in page.now }
-{
-    pair_at(page, 2)
+// There is no room for what was to be added.
+#[derive(Clone, Copy, Debug, PartialEq, Eq)]
+pub struct Full;
+
+// A key, and what lies there.
+#[derive(Clone, Copy)]
+pub struct Entry<'a> {
+    pub key: &'a [u8],
+    pub value: &'a [u8],
 }
 
-// Where an entry begins; 0 for one that no page has room for.
-fn start_of(page: &[u8; 4096], i: usize) -> usize
-    ensures is { i ≤ 2047 → result ≡ start_of page.now i }
-    ensures small { result < 65536 }
-{
-    if i == 0 {
-        return FIRST;
+// A page that is read as a node.
+#[derive(Clone, Copy)]
+pub struct Node<'a> {
+    pub page: &'a [u8],
+}
+
+impl<'a> Node<'a> {
+    // How many entries the page says it has.
+    pub fn count(self) -> usize
+        ensures is { result ≡ count_in self.entry.page.now }
+        ensures small { result < 65536 }
+    {
+        get_u16(self.page, 2).into()
     }
-    if i > 2047 {
-        return 0;
+
+    // Where an entry begins.
+    fn start_of(self, i: usize) -> usize
+        ensures is { i ≤ 2047 → result ≡ start_of self.entry.page.now i }
+        ensures small { result < 65536 }
+    {
+        if i == 0 {
+            return FIRST;
+        }
+        get_u16(self.page, PAGE.saturating_sub(i.saturating_mul(2))).into()
     }
-    pair_at(page, PAGE - 2 * i)
-}
 
-// The length of the key of the entry that begins at a place.
-fn key_len(page: &[u8; 4096], start: usize) -> usize
-    ensures is { start < 4095 → result ≡ pair page.now start }
-    ensures small { result < 65536 }
-{
-    if start >= PAGE - 1 {
-        return 0;
+    // The length of the key of the entry that begins at a place.
+    fn key_len(self, start: usize) -> usize
+        ensures is { result ≡ pair self.entry.page.now start }
+        ensures small { result < 65536 }
+    {
+        get_u16(self.page, start).into()
     }
-    pair_at(page, start)
+
+    // The key of an entry, as a part of its page.
+    pub fn key(self, i: usize) -> &'a [u8]
+        ensures { (n : ℕ) → Formed self.entry.page.now n → i < n → result.now ≡ key_at self.entry.page.now i }
+    {
+        let start = self.start_of(i);
+        part_of(self.page, start + 2, self.key_len(start))
+    }
+
+    // The value of an entry, as a part of its page.
+    pub fn value(self, i: usize) -> &'a [u8]
+        ensures { (n : ℕ) → Formed self.entry.page.now n → i < n → result.now ≡ value_at self.entry.page.now i }
+    {
+        let start = self.start_of(i);
+        let from = start + 2 + self.key_len(start);
+        let end = self.start_of(i.saturating_add(1));
+        part_of(self.page, from, end.saturating_sub(from))
+    }
+
+    pub fn entry(self, i: usize) -> Entry<'a>
+        ensures { (n : ℕ) → Formed self.entry.page.now n → i < n → lies result ≡ entry_at self.entry.page.now i }
+    {
+        Entry {
+            key: self.key(i),
+            value: self.value(i),
+        }
+    }
+
+    // How many keys are below one: where the keys rise, those before that place are and the others are not.
+    pub fn under(self, wanted: &[u8]) -> usize
+        ensures { Whole self.entry.page.now → Sorted self.entry.page.now (count_in self.entry.page.now) → Parted self.entry.page.now wanted.now (count_in self.entry.page.now) result }
+    {
+        halve(self.count(), |i| less(self.key(i), wanted))
+    }
+
+    // The entry of an inner node that leads to where a key belongs: the last that is not above it, or the first. `above` is the
+    // key with a 0 behind it, the least key above it.
+    pub fn pick(self, above: &[u8]) -> usize
+        ensures { (k : List ℕ) → above.now ≡ k ++ (0 ∷ []) → Whole self.entry.page.now → Sorted self.entry.page.now (count_in self.entry.page.now) → 0 < count_in self.entry.page.now → Picked self.entry.page.now k result }
+    {
+        self.under(above).saturating_sub(1)
+    }
+
+    // How many bytes the entries take.
+    pub fn used(self) -> usize
+        ensures { Whole self.entry.page.now → result ≡ weigh taken (entries_in self.entry.page.now) }
+    {
+        let n = self.count();
+        self.start_of(n).saturating_sub(FIRST) + 2 * n
+    }
 }
 
-// The key of an entry, as a part of its page.
-pub fn key(page: &[u8; 4096], i: usize) -> &[u8]
-    ensures { (n : ℕ) → Formed page.now n → i < n → result.now ≡ key_at page.now i }
+// Up to where a test holds of the numbers below `n`, if it holds of none behind one that fails it. By halving.
+fn halve<F: Fn(usize) -> bool>(n: usize, test: F) -> usize
+    requires { F.IsAlwaysCallable test }
+    ensures { (f : ℕ → Bool) → Tells (F.post test) n f → Falls n f → Halved n f result }
 {
-    let start = start_of(page, i);
-    part_of(page, start + 2, key_len(page, start))
-}
-
-// The value of an entry, as a part of its page.
-pub fn value(page: &[u8; 4096], i: usize) -> &[u8]
-    ensures { (n : ℕ) → Formed page.now n → i < n → result.now ≡ value_at page.now i }
-{
-    let start = start_of(page, i);
-    let from = start + 2 + key_len(page, start);
-    let end = start_of(page, i.saturating_add(1));
-    part_of(page, from, end.saturating_sub(from))
-}
-
-// How many keys are below one: where the keys rise, those before that place are and the others are not. By halving.
-pub fn under(page: &[u8; 4096], wanted: &[u8]) -> usize
-    ensures { Formed page.now (count_in page.now) → Sorted page.now (count_in page.now) → Parted page.now wanted.now (count_in page.now) result }
-{
+    // kept: halving by hand, by (d): the library halves slices, and a page's entries lie in none
     let mut low = 0;
-    let mut high = count(page);
+    let mut high = n;
     while low < high {
         let middle = low + (high - low) / 2;
-        if less(key(page, middle), wanted) {
+        if test(middle) {
             low = middle + 1;
         } else {
             high = middle;
         }
     }
     low
-}
-
-// The entry of an inner node that leads to where a key belongs: the last that is not above it, or the first. `above` is the
-// key with a 0 behind it, the least key above it.
-pub fn pick(page: &[u8; 4096], above: &[u8]) -> usize
-    ensures { (k : List ℕ) → above.now ≡ k ++ (0 ∷ []) → Formed page.now (count_in page.now) → Sorted page.now (count_in page.now) → 0 < count_in page.now → Picked page.now k result }
-{
-    let n = under(page, above);
-    if n > 0 { n - 1 } else { 0 }
-}
-
-// How many bytes the entries of a page take.
-pub fn used(page: &[u8; 4096]) -> usize
-    ensures { Formed page.now (count_in page.now) → result ≡ weigh taken (entries_in page.now) }
-{
-    let n = count(page);
-    let end = start_of(page, n);
-    end.saturating_sub(FIRST) + 2 * n
 }
 
 // A node of a level, with no entries.
@@ -112,31 +142,33 @@ pub fn clear(page: &mut [u8; 4096], level: u8)
 }
 
 // Writes an entry at a place, and its end and the new count where they belong.
-fn write_entry(page: &mut [u8; 4096], n: usize, at: usize, key: &[u8], value: &[u8])
-    requires { (length page.old ≡ 4096) × ((8 ≤ at) × (at + (2 + (length key.now + length value.now)) + 2 * (n + 1) ≤ 4096)) }
-    ensures { Written page.old n at key.now value.now page.new }
+fn write_entry(page: &mut [u8; 4096], n: usize, at: usize, entry: Entry)
+    requires { (length page.old ≡ 4096) × ((8 ≤ at) × (at + (2 + (length entry.key.now + length entry.value.now)) + 2 * (n + 1) ≤ 4096)) }
+    ensures { Written page.old n at entry.entry.key.now entry.entry.value.now page.new }
 {
-    let end = at + 2 + key.len() + value.len();
-    put_pair(page, at, key.len());
-    copy_in(page, at + 2, key);
-    copy_in(page, at + 2 + key.len(), value);
-    put_pair(page, PAGE - 2 * (n + 1), end);
-    put_pair(page, 2, n + 1);
+    let value_at = at + 2 + entry.key.len();
+    let end = value_at + entry.value.len();
+    put_u16(page, at, entry.key.len() as u16);
+    put_bytes(page, at + 2, entry.key);
+    put_bytes(page, value_at, entry.value);
+    put_u16(page, PAGE - 2 * (n + 1), end as u16);
+    put_u16(page, 2, (n + 1) as u16);
 }
 
 // Adds an entry behind the others, if there is room.
-pub fn push(page: &mut [u8; 4096], key: &[u8], value: &[u8]) -> bool
-    ensures { Formed page.old (count_in page.old) → Pushed page.old key.now value.now result page.new }
+pub fn push(page: &mut [u8; 4096], entry: Entry) -> Result<(), Full>
+    ensures { Whole page.old → Pushed page.old entry.entry.key.now entry.entry.value.now result page.new }
 {
-    let n = count(page);
-    let at = start_of(page, n);
-    let len = key.len().saturating_add(value.len());
+    let node = Node { page };
+    let n = node.count();
+    let at = node.start_of(n);
+    let len = entry.key.len().saturating_add(entry.value.len());
     if n > 2043 || at < FIRST || len > PAGE {
-        return false;
+        return Err(Full);
     }
     if at + 2 + len + 2 * (n + 1) > PAGE {
-        return false;
+        return Err(Full);
     }
-    write_entry(page, n, at, key, value);
-    true
+    write_entry(page, n, at, entry);
+    Ok(())
 }

@@ -1,9 +1,9 @@
 -- The laws of parts and of writes to them.
-use Rattle.std.proofs.Common.{◌≡◌, ℕ, zero, suc, ◌+◌, ◌-◌, ◌*◌, ◌/◌, ◌%◌, ◌<◌, ◌≤◌, min, true, false, ◌&&◌, ◌⊎◌, List, [], ◌∷◌, ◌++◌, length, get_or, take, drop, set, replicate, sym, refl, ap, ◌∙◌, inl, inr, append_assoc, arith, rules}
+use Rattle.std.proofs.Common.{◌≡◌, ℕ, zero, suc, ◌+◌, ◌-◌, ◌*◌, ◌/◌, ◌%◌, ◌<◌, ◌≤◌, min, ◌⊎◌, List, [], ◌∷◌, ◌++◌, length, get_or, take, drop, set, replicate, sym, refl, ap, ◌∙◌, inl, inr, append_assoc, arith, rules}
 use borrow.Rule.Slice.PartMut.{put_mid}
-use Rattle.std.proofs.lemmas.List.{drop-drop, drop_more, drop_all, drop-set-lt, take_more_set, length-set, same_lists, places, get_or_default, get_or_past}
-use Rattle.std.proofs.lemmas.Bool.{cond-true, cond-false, cases_lt, le-leb, lt-leb, eq-eqb, ne_eqb}
-use Rattle.octets.specs.Parts.{part, put, put_in, blank}
+use Rattle.std.proofs.lemmas.List.{drop-drop, drop_more, drop-set-lt, take_more_set, length-set, same_lists, places, get_or_default, get_or_past}
+use Rattle.std.proofs.lemmas.Bool.{cond-true, cond-false, cases_lt, le-leb, lt-leb}
+use Rattle.octets.specs.Parts.{part, put, put_in}
 
 -- a write to `s[a..a + k]`
 pub put_is : (a k : ℕ) (xs ys zs : List ℕ) → ys ≡ zs → k ≡ length zs → put_mid a k xs ys ≡ put xs a zs
@@ -144,28 +144,6 @@ pub take_put : (xs ys : List ℕ) (a : ℕ) → a + length ys ≤ length xs → 
 unfolding put
 take_put xs ys a h = same_lists _ _ (search (rules, places)) (λ k d l. grind (arith, places))
 
--- whether what is left is blank
-blank-first : (x : ℕ) (l : List ℕ) → x ≡ 0 → blank (x ∷ l) ≡ blank l
-unfolding blank
-blank-first x l e = ap (λ t. t && blank l) (eq-eqb x 0 e)
-
-blank-first-not : (x : ℕ) (l : List ℕ) → (x ≡ 0 → ⊥) → blank (x ∷ l) ≡ false
-unfolding blank
-blank-first-not x l e = ap (λ t. t && blank l) (ne_eqb x 0 e)
-
-blank-nil : blank [] ≡ true
-unfolding blank
-blank-nil = refl
-
-pub blank-more : (l : List ℕ) (i : ℕ) → i < length l → get_or l i 0 ≡ 0 → blank (drop (i + 1) l) ≡ blank (drop i l)
-blank-more l i h e = sym (ap blank (drop_more l i 0 h) ∙ blank-first (get_or l i 0) (drop (i + 1) l) e)
-
-pub blank-not : (l : List ℕ) (i : ℕ) → i < length l → (get_or l i 0 ≡ 0 → ⊥) → blank (drop i l) ≡ false
-blank-not l i h e = ap blank (drop_more l i 0 h) ∙ blank-first-not (get_or l i 0) (drop (i + 1) l) e
-
-pub blank-end : (l : List ℕ) (i : ℕ) → length l ≤ i → blank (drop i l) ≡ true
-blank-end l i h = ap blank (drop_all i l h) ∙ blank-nil
-
 pub part-behind : (xs ys : List ℕ) (a b n : ℕ) → a + length ys ≤ b → a + length ys ≤ length xs → part (put xs a ys) b n ≡ part xs b n
 unfolding put
 part-behind xs ys a b n e h = same_lists _ _ (search (rules, places)) (λ k d l. grind (arith, places))
@@ -173,8 +151,3 @@ part-behind xs ys a b n e h = same_lists _ _ (search (rules, places)) (λ k d l.
 -- two bytes are their number, and back
 pub pair-of : (n : ℕ) → n / 256 * 256 + n % 256 ≡ n
 pair-of n = omega arith
-
-pub zeros-at : (n k : ℕ) → ◌≡◌ {A = ℕ} (get_or (replicate n 0) k 0) 0
-zeros-at zero k = refl
-zeros-at (suc n) zero = refl
-zeros-at (suc n) (suc k) = zeros-at n k

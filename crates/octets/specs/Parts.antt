@@ -1,5 +1,6 @@
 -- Parts of bytes, writes to them, and numbers of two bytes.
-use Rattle.std.specs.Prelude.{ℕ, ◌+◌, ◌*◌, ◌/◌, ◌%◌, Bool, true, cond, ◌&&◌, List, [], ◌∷◌, ◌++◌, length, take, drop, ◌==◌, nat_le, slice_index}
+use Rattle.std.specs.List.{list_all}
+use Rattle.std.specs.Prelude.{ℕ, ◌+◌, ◌*◌, ◌/◌, ◌%◌, Bool, cond, List, [], ◌∷◌, ◌++◌, length, take, drop, ◌==◌, nat_le, slice_index}
 
 -- n bytes from a place on
 abbrev pub part : List ℕ → ℕ → ℕ → List ℕ
@@ -14,9 +15,8 @@ unfoldable pub put_in : List ℕ → ℕ → List ℕ → List ℕ
 put_in xs at ys = cond (nat_le (at + length ys) (length xs)) (put xs at ys) xs
 
 -- whether there is nothing but zeros
-unfoldable pub blank : List ℕ → Bool
-blank [] = true
-blank (x ∷ xs) = x == 0 && blank xs
+abbrev pub blank : List ℕ → Bool
+blank xs = list_all (λ b. b == 0) xs
 
 -- the number in two bytes, and its bytes: the high one first
 abbrev pub pair : List ℕ → ℕ → ℕ

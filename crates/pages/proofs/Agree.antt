@@ -12,7 +12,7 @@ use Rattle.pages.specs.Model.{Pages, put_page, keep, drop}
 
 -- a blank page is all zeros
 pub blank-is : (l : List ℕ) → blank l ≡ true → l ≡ zeros (length l)
-unfolding blank zeros
+unfolding zeros
 blank-is [] e = refl
 blank-is (x ∷ l) e =
     let (a, b) = and_parts (eqb x 0) (blank l) e in

@@ -37,19 +37,15 @@ impl CutDisk {
 
     // One thing was asked: power fails where a plan runs out.
     fn count(&mut self) -> Result<(), Stop> {
-        let mut fails = false;
-        for i in 0..self.planned.len() {
-            let Planned { asks, seed } = self.planned[i];
-            self.planned[i] = Planned {
-                asks: asks.saturating_sub(1),
-                seed,
-            };
-            if asks == 1 {
-                self.vector.cut(seed);
-                fails = true;
+        let mut served = Ok(());
+        for plan in self.planned.iter_mut() {
+            if plan.asks == 1 {
+                self.vector.cut(plan.seed);
+                served = Err(Stop::Cut);
             }
+            plan.asks = plan.asks.saturating_sub(1);
         }
-        if fails { Err(Stop::Cut) } else { Ok(()) }
+        served
     }
 }
 

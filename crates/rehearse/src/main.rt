@@ -6,7 +6,7 @@
 use console::Stop;
 use console::answers::push_reply;
 use console::drive::answer;
-use console::lines::read_line;
+use console::lines::{for_each_line, read_line};
 use session::{Engine, Reply};
 use std::alloc::Global;
 use std::io;
@@ -34,15 +34,17 @@ struct Rehearsal {
     out: Vec<u8>,
 }
 
+// The engine for a device of a size, which fails for one reason.
+fn opened(heap: Global, size: u64, why: io::ErrorKind) -> Result<Engine, Stop> {
+    Engine::open(heap, size).map_err(|_| Stop::Failed(io::Error::from(why)))
+}
+
 impl Rehearsal {
     fn begin(heap: Global, size: u64) -> Result<Rehearsal, Stop> {
-        let Ok(engine) = Engine::open(heap, size) else {
-            return Err(Stop::Failed(io::Error::from(io::ErrorKind::InvalidInput)));
-        };
         Ok(Rehearsal {
             heap,
             size,
-            engine,
+            engine: opened(heap, size, io::ErrorKind::InvalidInput)?,
             up: false,
             disk: CutDisk::blank(heap, size)?,
             row: Vec::new(heap),
@@ -54,16 +56,13 @@ impl Rehearsal {
     fn fail(&mut self) -> Result<(), Stop> {
         self.up = false;
         self.out.extend_from_slice(b"cut\n")?;
-        let Ok(engine) = Engine::open(self.heap, self.size) else {
-            return Err(Stop::Failed(io::Error::from(io::ErrorKind::OutOfMemory)));
-        };
-        self.engine = engine;
+        self.engine = opened(self.heap, self.size, io::ErrorKind::OutOfMemory)?;
         Ok(())
     }
 
     // Steps until it answers, or the power fails.
     fn hear(&mut self) -> Result<Option<Reply>, Stop> {
-        match answer(self.heap, &mut self.engine, &mut self.disk, &mut self.row) {
+        match answer(&mut self.engine, &mut self.disk, &mut self.row) {
             Ok(reply) => Ok(Some(reply)),
             Err(Stop::Cut) => {
                 self.fail()?;
@@ -79,9 +78,7 @@ impl Rehearsal {
             if self.up {
                 return Ok(());
             }
-            if let Some(_) = self.hear()? {
-                self.up = true;
-            }
+            self.up = self.hear()?.is_some();
         }
         Ok(())
     }
@@ -90,7 +87,7 @@ impl Rehearsal {
     fn note(&mut self) -> Result<(), Stop> {
         match self.hear()? {
             Some(reply) => {
-                push_reply(self.heap, &mut self.out, reply, self.row.as_slice())?;
+                push_reply(&mut self.out, reply, self.row.as_slice())?;
                 Ok(())
             }
             None => self.rise(),
@@ -118,7 +115,9 @@ impl Rehearsal {
         }
     }
 
-    fn print(&mut self, rt: &HostRuntime) -> Result<(), Stop> {
+    // Plays a line, and prints what was answered.
+    fn answer(&mut self, rt: &HostRuntime, text: &[u8]) -> Result<(), Stop> {
+        self.play(text)?;
         rt.stdout().write_all(self.out.as_slice())?;
         self.out.clear();
         Ok(())
@@ -129,42 +128,29 @@ fn run(rt: &HostRuntime) -> Result<(), Stop> {
     let heap = rt.alloc();
     let mut input = BufReader::new(heap, rt.stdin())?;
     let mut line = Vec::new(heap);
-    let mut more = read_line(&mut input, &mut line)?;
-    let mut size = SECTORS;
-    if let Some(said) = size_of(line.as_slice()) {
-        size = said;
-        more = read_line(&mut input, &mut line)?;
+    let any = read_line(&mut input, &mut line)?;
+    let size = size_of(line.as_slice());
+    let mut rehearsal = Rehearsal::begin(heap, size.unwrap_or(SECTORS))?;
+    if any && size.is_none() {
+        rehearsal.answer(rt, line.as_slice())?;
     }
-    let mut rehearsal = Rehearsal::begin(heap, size)?;
-    for _ in 0..u64::MAX {
-        if !more {
-            return Ok(());
-        }
-        rehearsal.play(line.as_slice())?;
-        rehearsal.print(rt)?;
-        more = read_line(&mut input, &mut line)?;
-    }
-    Ok(())
+    for_each_line(&mut input, &mut line, |text| rehearsal.answer(rt, text))
 }
 
 // Says on standard error why it ended, where it failed.
-fn told(rt: &HostRuntime) -> Result<(), io::Error> {
-    match run(rt) {
-        Ok(()) => Ok(()),
-        Err(Stop::Failed(e)) => {
-            eprintln!(rt;
-                "rehearse: {e}: a size is from 4096 to 1099511627776 sectors, and fits the memory"
-            )?;
-            Err(e)
-        }
-        Err(Stop::Cut) => Err(io::Error::from(io::ErrorKind::UnexpectedEof)),
+fn told(rt: &HostRuntime) -> io::Result<ExitCode> {
+    let Err(stop) = run(rt) else {
+        return Ok(ExitCode::SUCCESS);
+    };
+    if let Stop::Failed(e) = stop {
+        eprintln!(rt;
+            "rehearse: {e}: a size is from 4096 to 1099511627776 sectors, and fits the memory"
+        )?;
     }
+    Ok(ExitCode::FAILURE)
 }
 
 // An error that `main` returned would be printed beside the line that `told` writes, so it ends by its status.
 fn main(rt: HostRuntime) -> ExitCode {
-    match told(&rt) {
-        Ok(()) => ExitCode::SUCCESS,
-        Err(_) => ExitCode::FAILURE,
-    }
+    told(&rt).unwrap_or(ExitCode::FAILURE)
 }

@@ -10,34 +10,15 @@ pub enum Line {
 
 // The number that digits spell, if there are any and it fits.
 fn number(digits: &[u8]) -> Option<u64> {
-    let mut value = 0u64;
-    for digit in digits {
-        if *digit < b'0' || *digit > b'9' {
-            return None;
-        }
-        value = value
-            .checked_mul(10)?
-            .checked_add(u64::from(*digit - b'0'))?;
+    if !digits.iter().all(u8::is_ascii_digit) {
+        return None;
     }
-    if digits.is_empty() { None } else { Some(value) }
-}
-
-// Where the first blank stands.
-fn blank_at(text: &[u8]) -> Option<usize> {
-    for (i, byte) in text.iter().enumerate() {
-        if *byte == b' ' {
-            return Some(i);
-        }
-    }
-    None
+    str::from_utf8(digits).ok()?.parse().ok()
 }
 
 // The first word and what follows the blank after it.
 fn parted(text: &[u8]) -> Option<(&[u8], &[u8])> {
-    let at = blank_at(text)?;
-    if at >= text.len() {
-        return None;
-    }
+    let at = text.iter().position(|byte| *byte == b' ')?;
     Some((&text[..at], &text[at + 1..]))
 }
 
@@ -54,10 +35,7 @@ pub fn line_of(text: &[u8]) -> Line {
     if text == b"next".as_slice() {
         return Line::Next;
     }
-    match cut_of(text) {
-        Some(line) => line,
-        None => Line::Say,
-    }
+    cut_of(text).unwrap_or(Line::Say)
 }
 
 // The sectors that `size N` says.

@@ -1,5 +1,5 @@
 -- What the session does, by what is under way.
-use Rattle.std.specs.Prelude.{◌≡◌, ℕ, ◌<◌, ◌≤◌, List, [], length}
+use Rattle.std.specs.Prelude.{◌≡◌, ℕ, ◌<◌, ◌≤◌, List, [], length, Ok, Err, Result}
 use Rattle.device.specs.Layers.{Layer}
 use Rattle.device.specs.declared.Next.{Next}
 use Rattle.device.specs.declared.Next.TheVariants.{Call as Calls, Give}
@@ -8,8 +8,10 @@ use Rattle.pages.specs.declared.frames.PageCall.TheVariants.{Get}
 use Rattle.pager.specs.declared.state.Reply as pager
 use Rattle.meaning.specs.Tree as tree
 use Rattle.meaning.specs.Grammar.{Reads}
-use Rattle.session.specs.declared.statement.Heard.{Heard}
-use Rattle.session.specs.declared.statement.Heard.TheVariants.{TooLong, Unread, Statement}
+use Rattle.text.specs.declared.parts.Refusal as text
+use Rattle.text.specs.declared.parts.Refusal.TheVariants.{TooLong, Unread}
+use Rattle.session.specs.declared.refusal.Refusal.TheVariants.{NotBuilt, NoQuery}
+use Rattle.session.specs.Refusal.{told}
 use Rattle.session.specs.declared.statement.Doing.{Doing}
 use Rattle.session.specs.declared.statement.Doing.TheVariants.{Rising, Loading, Resting, Said, Asked}
 use Rattle.session.specs.declared.statement.Session.{Session}
@@ -20,10 +22,10 @@ use Rattle.session.specs.declared.Reply.{Reply}
 use Rattle.session.specs.declared.Reply.TheVariants.{No, Done}
 
 -- a text was read as this: it is too long, no statement, or one
-abbrev pub HeardAs : List ℕ → Heard → Type 0
-HeardAs t TooLong = 4096 < length t
-HeardAs t Unread = (length t ≤ 4096) × ((s : tree.Statement) → Reads t s → ⊥)
-HeardAs t Statement = (length t ≤ 4096) × ((s : tree.Statement) × Reads t s)
+abbrev pub HeardAs : List ℕ → Result (Unit {0}) text.Refusal → Type 0
+HeardAs t (Err TooLong) = 4096 < length t
+HeardAs t (Err Unread) = (length t ≤ 4096) × ((s : tree.Statement) → Reads t s → ⊥)
+HeardAs t (Ok u) = (length t ≤ 4096) × ((s : tree.Statement) × Reads t s)
 
 -- what a call begins: a text was said, or a row was asked for
 abbrev pub SaidAs : List ℕ → Doing → Type 0
@@ -47,13 +49,12 @@ Is x b y d = (x ≡ y) × (b ≡ d)
 
 abbrev pub StartsAt : Doing → Next PageCall Value Reply → Doing → Type 0
 StartsAt Rising x b = Is x b (Calls header) Loading
-StartsAt (Said TooLong) x b = Is x b (Give (No 10)) Resting
-StartsAt (Said Unread) x b = Is x b (Give (No 1)) Resting
-StartsAt (Said Statement) x b = Is x b (Give (No 12)) Resting
-StartsAt Asked x b = Is x b (Give (No 13)) Resting
+StartsAt (Said (Err e)) x b = Is x b (Give (No (told e))) Resting
+StartsAt (Said (Ok u)) x b = Is x b (Give (No NotBuilt)) Resting
+StartsAt Asked x b = Is x b (Give (No NoQuery)) Resting
 -- these do not come about
-StartsAt Loading x b = Is x b (Give (No 13)) Resting
-StartsAt Resting x b = Is x b (Give (No 13)) Resting
+StartsAt Loading x b = Is x b (Give (No NoQuery)) Resting
+StartsAt Resting x b = Is x b (Give (No NoQuery)) Resting
 
 -- the header was read
 abbrev pub HearsAt : Next PageCall Value Reply → Doing → Type 0

@@ -18,25 +18,28 @@
 ghost use Rattle.std.specs.Prelude.{◌≡◌, ℕ, []};
 ghost use Rattle.device.specs.Device.{and};
 ghost use Rattle.session.specs.Promise.{engine_of, EngineWhole, OpenedBy};
+ghost use Rattle.session.specs.declared.Unopened.TheVariants.{Memory};
 
 use device::{Ask, Layer, Over, Store};
 use pager::Pager;
 use pages::Frames;
 use std::alloc::{AllocError, Global};
 
+pub mod refusal;
 pub mod statement;
 
+pub use refusal::Refusal;
 use statement::Session;
 
 // What is said to the engine; a statement's text goes with the call.
-#[derive(Clone, Copy)]
+#[derive(Clone, Copy, Debug, PartialEq, Eq)]
 pub enum Call {
     Say,
     Next,
 }
 
 // A value of a row; the bytes of a text stand beside it, in what the engine shows.
-#[derive(Clone, Copy)]
+#[derive(Clone, Copy, Debug, PartialEq, Eq)]
 pub enum Value {
     Null,
     Number(i64),
@@ -44,10 +47,10 @@ pub enum Value {
 }
 
 // What a call is answered by.
-#[derive(Clone, Copy)]
+#[derive(Clone, Copy, Debug, PartialEq, Eq)]
 pub enum Reply {
-    // refused, by number; nothing has changed
-    No(u8),
+    // refused; nothing has changed
+    No(Refusal),
     // done, and so many rows were inserted, changed or deleted
     Done(u64),
     // a query runs: `next` gives its rows
@@ -61,12 +64,20 @@ pub enum Reply {
 }
 
 // Why there is no engine.
-#[derive(Clone, Copy)]
+#[derive(Clone, Copy, Debug, PartialEq, Eq)]
 pub enum Unopened {
     // the device has fewer than 4,096 or more than 2^40 sectors
     Size,
     // there is not the memory that it will need
     Memory,
+}
+
+impl From<AllocError> for Unopened {
+    ghost from_gives = { λ _ result. result ≡ Memory };
+
+    fn from(_error: AllocError) -> Unopened {
+        Unopened::Memory
+    }
 }
 
 #[derive(Drop)]
@@ -76,6 +87,7 @@ pub struct Engine {
 
 impl Engine {
     // The engine for a device of so many sectors, yet to come up. All memory that it will ever need is taken here.
+    #[tactic(auto, using(crate::proofs::Keeps::engine_whole))]
     pub fn open(heap: Global, size: u64) -> Result<Engine, Unopened>
         ensures opened { OpenedBy size result }
         ensures whole { EngineWhole }
@@ -83,12 +95,8 @@ impl Engine {
         if size < 4096 || size > 1099511627776 {
             return Err(Unopened::Size);
         }
-        let Ok(pages) = pages::open(heap, size) else {
-            return Err(Unopened::Memory);
-        };
-        let Ok(session) = Session::new(heap) else {
-            return Err(Unopened::Memory);
-        };
+        let pages = pages::open(heap, size)?;
+        let session = Session::new(heap)?;
         Ok(Engine {
             tower: Over::opening(pages, session),
         })

@@ -4,22 +4,14 @@
 ghost use Rattle.std.specs.Prelude.{◌≡◌, ℕ, IfOk};
 ghost use Rattle.session.specs.Layer.{session_layer, StartsAt, HearsAt, HeardAs, TakenAs};
 
-use crate::{Call, Reply, Value};
+use crate::{Call, Refusal, Reply, Value};
 use device::{Layer, Next};
 use pages::PageCall;
 use std::alloc::{AllocError, Global};
-use text::{Nodes, Refusal};
+use text::Nodes;
 
 // The page that says what is kept.
 pub const HEADER: u64 = 0;
-
-// What a text was read as.
-#[derive(Clone, Copy)]
-pub enum Heard {
-    TooLong,
-    Unread,
-    Statement,
-}
 
 // What is under way.
 #[derive(Clone, Copy)]
@@ -28,7 +20,7 @@ pub enum Doing {
     Loading,
     Resting,
     // a text was said
-    Said(Heard),
+    Said(Result<(), text::Refusal>),
     // a row was asked for
     Asked,
 }
@@ -40,14 +32,11 @@ pub struct Session {
 }
 
 // Reads a text.
-fn hear_text(nodes: &mut Nodes, text: &[u8]) -> Heard
+fn hear_text(nodes: &mut Nodes, text: &[u8]) -> Result<(), text::Refusal>
     ensures { HeardAs text.now result }
 {
-    match text::read(nodes, text) {
-        Ok(_) => Heard::Statement,
-        Err(Refusal::Unread) => Heard::Unread,
-        Err(Refusal::TooLong) => Heard::TooLong,
-    }
+    text::read(nodes, text)?;
+    Ok(())
 }
 
 // What a call begins.
@@ -64,15 +53,13 @@ fn taken(nodes: &mut Nodes, call: Call, text: &[u8]) -> Doing
 fn started(doing: Doing) -> (Next<PageCall, Value, Reply>, Doing)
     ensures { StartsAt doing result.0 result.1 }
 {
-    match doing {
-        Doing::Rising => (Next::Call(PageCall::Get(HEADER)), Doing::Loading),
-        Doing::Said(Heard::TooLong) => (Next::Give(Reply::No(10)), Doing::Resting),
-        Doing::Said(Heard::Unread) => (Next::Give(Reply::No(1)), Doing::Resting),
-        Doing::Said(Heard::Statement) => (Next::Give(Reply::No(12)), Doing::Resting),
-        Doing::Asked | Doing::Loading | Doing::Resting => {
-            (Next::Give(Reply::No(13)), Doing::Resting)
-        }
-    }
+    let refusal = match doing {
+        Doing::Rising => return (Next::Call(PageCall::Get(HEADER)), Doing::Loading),
+        Doing::Said(Ok(())) => Refusal::NotBuilt,
+        Doing::Said(Err(unread)) => Refusal::from(unread),
+        Doing::Asked | Doing::Loading | Doing::Resting => Refusal::NoQuery,
+    };
+    (Next::Give(Reply::No(refusal)), Doing::Resting)
 }
 
 // What comes after an answer of the store below: the header page was read, and the session is up.

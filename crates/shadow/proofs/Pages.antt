@@ -60,7 +60,7 @@ gather_none k x = refl
 
 -- zeros
 pub blank-zeros : (n : ℕ) → blank (zeros n) ≡ true
-unfolding blank zeros
+unfolding zeros
 blank-zeros zero = refl
 blank-zeros (suc n) = blank-zeros n
 

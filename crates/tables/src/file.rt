@@ -45,11 +45,7 @@ impl FileDisk {
 
     // How many sectors it has, if it has no part of one.
     pub fn sectors(&self) -> Option<u64> {
-        if self.len % 512 == 0 {
-            Some(self.len / 512)
-        } else {
-            None
-        }
+        (self.len % 512 == 0).then_some(self.len / 512)
     }
 
     // Writes what was gathered.

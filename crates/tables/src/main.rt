@@ -5,12 +5,11 @@
 use console::Stop;
 use console::answers::push_reply;
 use console::drive::answer;
-use console::lines::read_line;
+use console::lines::for_each_line;
 use session::{Engine, Reply, Unopened};
-use std::alloc::Global;
 use std::io::{BufReader, Write};
 use std::process::ExitCode;
-use std::{env, io};
+use std::{env, fmt, io};
 
 mod file;
 
@@ -22,7 +21,6 @@ const GATHERED: usize = 65536;
 // A connection: the engine on its disk, the values of the row that is handed over, and what is to be printed.
 #[derive(Drop)]
 struct Console {
-    heap: Global,
     engine: Engine,
     disk: FileDisk,
     row: Vec<u8>,
@@ -30,13 +28,13 @@ struct Console {
 }
 
 impl Console {
-    // Does what the engine asks until it answers, and writes the answer down.
+    // Does what the engine asks until it answers.
     fn hear(&mut self) -> Result<Reply, Stop> {
-        answer(self.heap, &mut self.engine, &mut self.disk, &mut self.row)
+        answer(&mut self.engine, &mut self.disk, &mut self.row)
     }
 
     fn note(&mut self, reply: Reply) -> Result<(), Stop> {
-        push_reply(self.heap, &mut self.out, reply, self.row.as_slice())?;
+        push_reply(&mut self.out, reply, self.row.as_slice())?;
         Ok(())
     }
 
@@ -52,9 +50,9 @@ impl Console {
             self.engine.next();
             let reply = self.hear()?;
             self.note(reply)?;
-            let Reply::Row = reply else {
+            if reply != Reply::Row {
                 return Ok(());
-            };
+            }
             if self.out.len() >= GATHERED {
                 self.print(rt)?;
             }
@@ -77,7 +75,6 @@ impl Console {
 fn serve(rt: &HostRuntime, engine: Engine, disk: FileDisk) -> Result<(), Stop> {
     let heap = rt.alloc();
     let mut console = Console {
-        heap,
         engine,
         disk,
         row: Vec::new(heap),
@@ -86,67 +83,78 @@ fn serve(rt: &HostRuntime, engine: Engine, disk: FileDisk) -> Result<(), Stop> {
     let _ = console.hear()?;
     let mut input = BufReader::new(heap, rt.stdin())?;
     let mut line = Vec::new(heap);
-    for _ in 0..u64::MAX {
-        if !read_line(&mut input, &mut line)? {
-            return Ok(());
+    for_each_line(&mut input, &mut line, |text| console.say(rt, text))
+}
+
+// Why nothing more is answered.
+#[derive(Drop)]
+enum Failure {
+    // the file can't be opened
+    File(io::Error),
+    // so many bytes are no device
+    Size(u64),
+    Memory,
+    // a read or a write failed, of the device or of what is said and answered
+    Stopped(io::Error),
+}
+
+// How to make a device.
+const HINT: &str = "a blank device is made by: truncate -s 64M NAME";
+
+impl fmt::Display for Failure {
+    fn fmt<W: fmt::Write>(&self, f: &mut fmt::Formatter<W>) -> fmt::Result {
+        match self {
+            Failure::File(e) => write!(f, "{e}; {HINT}"),
+            Failure::Size(bytes) => write!(
+                f,
+                "{bytes} bytes are no device, which has a multiple of 512 and at least 2097152; {HINT}"
+            ),
+            Failure::Memory => write!(f, "not enough memory for a device of this size; {HINT}"),
+            Failure::Stopped(e) => write!(f, "{e}"),
         }
-        console.say(rt, line.as_slice())?;
     }
+}
+
+impl From<Stop> for Failure {
+    fn from(stop: Stop) -> Failure {
+        match stop {
+            Stop::Failed(e) => Failure::Stopped(e),
+            Stop::Cut => Failure::Stopped(io::Error::from(io::ErrorKind::UnexpectedEof)),
+        }
+    }
+}
+
+fn run(rt: &HostRuntime, path: &str) -> Result<(), Failure> {
+    let disk = FileDisk::open(rt, path).map_err(Failure::File)?;
+    let bytes = disk.bytes();
+    // a part of a sector makes it no device
+    let engine = Engine::open(rt.alloc(), disk.sectors().unwrap_or(0)).map_err(|why| match why {
+        Unopened::Size => Failure::Size(bytes),
+        Unopened::Memory => Failure::Memory,
+    })?;
+    serve(rt, engine, disk)?;
     Ok(())
 }
 
-// One line on standard error, and how to make a device.
-fn refuse(rt: &HostRuntime, path: &str, why: &str, e: io::Error) -> Result<(), io::Error> {
-    eprintln!(rt; "tables: {path}: {why}; a blank device is made by: truncate -s 64M NAME")?;
-    Err(e)
-}
-
-fn refuse_size(rt: &HostRuntime, path: &str, bytes: u64) -> Result<(), io::Error> {
-    let why = format!(in rt.alloc();
-        "{bytes} bytes are no device, which has a multiple of 512 and at least 2097152"
-    )?;
-    let e = io::Error::from(io::ErrorKind::InvalidData);
-    refuse(rt, path, why.as_str(), e)
-}
-
-fn run(rt: &HostRuntime, path: &str) -> Result<(), io::Error> {
-    let disk = match FileDisk::open(rt, path) {
-        Ok(disk) => disk,
-        Err(e) => return refuse(rt, path, format!(in rt.alloc(); "{e}")?.as_str(), e),
+// Answers on the file that is named, and says on standard error why it ended, where it failed.
+fn run_named(rt: &HostRuntime, path: &str) -> io::Result<ExitCode> {
+    let Err(failure) = run(rt, path) else {
+        return Ok(ExitCode::SUCCESS);
     };
-    // a part of a sector makes it no device
-    let engine = match Engine::open(rt.alloc(), disk.sectors().unwrap_or(0)) {
-        Ok(engine) => engine,
-        Err(Unopened::Size) => return refuse_size(rt, path, disk.bytes()),
-        Err(Unopened::Memory) => {
-            let e = io::Error::from(io::ErrorKind::OutOfMemory);
-            return refuse(rt, path, "not enough memory for a device of this size", e);
-        }
-    };
-    match serve(rt, engine, disk) {
-        Ok(()) => Ok(()),
-        Err(Stop::Failed(e)) => {
-            eprintln!(rt; "tables: {path}: {e}")?;
-            Err(e)
-        }
-        Err(Stop::Cut) => Err(io::Error::from(io::ErrorKind::UnexpectedEof)),
-    }
+    eprintln!(rt; "tables: {path}: {failure}")?;
+    Ok(ExitCode::FAILURE)
 }
 
 // The file that is named, or `device`.
-fn run_named(rt: &HostRuntime) -> Result<(), io::Error> {
+fn run_first(rt: &HostRuntime) -> io::Result<ExitCode> {
     let mut args = env::args(rt)?;
-    let _ = args.next();
-    match args.next() {
-        Some(path) => run(rt, path.as_str()),
-        None => run(rt, "device"),
+    match args.nth(1) {
+        Some(path) => run_named(rt, path.as_str()),
+        None => run_named(rt, "device"),
     }
 }
 
-// An error that `main` returned would be printed beside the line that `run` writes, so it ends by its status.
+// An error that `main` returned would be printed beside the line that says why, so it ends by its status.
 fn main(rt: HostRuntime) -> ExitCode {
-    match run_named(&rt) {
-        Ok(()) => ExitCode::SUCCESS,
-        Err(_) => ExitCode::FAILURE,
-    }
+    run_first(&rt).unwrap_or(ExitCode::FAILURE)
 }

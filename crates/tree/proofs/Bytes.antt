@@ -1,16 +1,9 @@
 -- A page's entries as bytes.
 use Rattle.std.proofs.Common.{◌≡◌, ℕ, suc, ◌+◌, ◌*◌, ◌/◌, ◌%◌, List, [], ◌∷◌, ◌++◌, length, take, drop, sym, refl, ap, ◌∙◌, ap₂, append_assoc, arith, length-append}
+use Rattle.std.proofs.lemmas.List.{take_at, drop_at}
 use Rattle.tree.specs.Entries.{Entry}
 use Rattle.tree.specs.Pages.{Page, weigh}
 use Rattle.tree.specs.Bytes.{entry_bytes, page_bytes, taken, decode, BytesAre}
-
-take_len : (a b : List ℕ) → take (length a) (a ++ b) ≡ a
-take_len [] b = refl
-take_len (x ∷ a) b = ap (λ z. x ∷ z) (take_len a b)
-
-drop_len : (a b : List ℕ) → drop (length a) (a ++ b) ≡ b
-drop_len [] b = refl
-drop_len (x ∷ a) b = drop_len a b
 
 whole : (n : ℕ) → 256 * (n / 256) + n % 256 ≡ n
 whole n = omega arith
@@ -19,10 +12,10 @@ read_one : (x : Entry) (n : ℕ) (r : List ℕ) → decode (suc n) (entry_bytes 
 unfolding decode
 read_one x n r =
     ap₂ (λ k v. at k v) (whole (length x.key)) (whole (length x.value))
-    ∙ ap (λ z. record { key = z; value = take (length x.value) (drop (length x.key) body) } ∷ decode n (drop (length x.value) (drop (length x.key) body))) (ap (take (length x.key)) assoc ∙ take_len x.key (x.value ++ r))
-    ∙ ap (λ z. record { key = x.key; value = take (length x.value) z } ∷ decode n (drop (length x.value) z)) (ap (drop (length x.key)) assoc ∙ drop_len x.key (x.value ++ r))
-    ∙ ap (λ z. record { key = x.key; value = z } ∷ decode n (drop (length x.value) (x.value ++ r))) (take_len x.value r)
-    ∙ ap (λ z. x ∷ decode n z) (drop_len x.value r)
+    ∙ ap (λ z. record { key = z; value = take (length x.value) (drop (length x.key) body) } ∷ decode n (drop (length x.value) (drop (length x.key) body))) (ap (take (length x.key)) assoc ∙ take_at x.key (x.value ++ r) (length x.key) refl)
+    ∙ ap (λ z. record { key = x.key; value = take (length x.value) z } ∷ decode n (drop (length x.value) z)) (ap (drop (length x.key)) assoc ∙ drop_at x.key (x.value ++ r) (length x.key) refl)
+    ∙ ap (λ z. record { key = x.key; value = z } ∷ decode n (drop (length x.value) (x.value ++ r))) (take_at x.value r (length x.value) refl)
+    ∙ ap (λ z. x ∷ decode n z) (drop_at x.value r (length x.value) refl)
   where
     body : List ℕ
     body = (x.key ++ x.value) ++ r

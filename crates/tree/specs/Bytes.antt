@@ -1,13 +1,11 @@
 -- A page's entries as bytes: for each, two bytes for the length of its key, two for that of its value, then both.
-use Rattle.std.specs.Prelude.{◌≡◌, ℕ, zero, suc, ◌+◌, ◌*◌, ◌/◌, ◌%◌, List, [], ◌∷◌, ◌++◌, length, take, drop, slice_index}
+use Rattle.std.specs.Prelude.{◌≡◌, ℕ, zero, suc, ◌+◌, List, [], ◌∷◌, ◌++◌, length, take, drop}
+use Rattle.octets.specs.Parts.{pair, pair_of}
 use Rattle.tree.specs.Entries.{Entry}
 use Rattle.tree.specs.Pages.{Page, weigh}
 
-abbrev pub two : ℕ → List ℕ
-two n = n / 256 ∷ n % 256 ∷ []
-
 abbrev pub entry_bytes : Entry → List ℕ
-entry_bytes x = two (length x.key) ++ (two (length x.value) ++ (x.key ++ x.value))
+entry_bytes x = pair_of (length x.key) ++ (pair_of (length x.value) ++ (x.key ++ x.value))
 
 unfoldable pub page_bytes : Page → List ℕ
 page_bytes [] = []
@@ -18,10 +16,10 @@ abbrev pub taken : Entry → ℕ
 taken x = 4 + (length x.key + length x.value)
 
 abbrev pub key_len : List ℕ → ℕ
-key_len bs = 256 * slice_index bs 0 + slice_index bs 1
+key_len bs = pair bs 0
 
 abbrev pub value_len : List ℕ → ℕ
-value_len bs = 256 * slice_index bs 2 + slice_index bs 3
+value_len bs = pair bs 2
 
 -- n entries from bytes
 unfoldable pub decode : ℕ → List ℕ → Page

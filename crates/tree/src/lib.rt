@@ -11,54 +11,44 @@ ghost use Rattle.tree.specs.Many.{ManyMaps, ManyRise};
 ghost use Rattle.tree.specs.Laws.{JoinKeeps, LevelAny, RaisedPuts, Splice, WindowApart, WindowGrown, PiecesFit, LevelEdit, HeadsRise, NewLevel, TrimStands, AtStep, UnderStep, BelongsParts, FirstFound, LastFound, NoneFound, SameLead, DownReaches, DownUnder, DownExact, DownBefore, SeekFrom, SeekBefore, SeekLeaf, LeafChange, ClimbLinks, TopLinks, NewPages, Seventeen, LeafSix, WholeFew, FirstChange, EntersTakes, RunBelongs, Space1226, WholeChange, WholeFirst, TouchedThree, ReplaceIs, ReplaceGrown, StandsStored, NamesApart, LeafBound, InnerBound, TreeBound, SpaceBound, HeightBound};
 
 // Joining keeps the entries, and neighbours come out apart.
-pub fn join_keeps() -> u8
+pub fn join_keeps()
     ensures { JoinKeeps }
-{
-    0
-}
+{}
 
 // A run of pages is replaced between its neighbours.
-pub fn window_stands() -> u8
+pub fn window_stands()
     ensures apart { WindowApart }
     ensures grown { WindowGrown }
-{
-    0
-}
+{}
 
 // How many pages and levels there are.
-pub fn bounds_stand() -> u8
+pub fn bounds_stand()
     ensures leaf { LeafBound }
     ensures inner { InnerBound }
     ensures tree { TreeBound }
     ensures space { SpaceBound }
     ensures height { HeightBound }
     ensures here { Space1226 }
-{
-    0
-}
+{}
 
 // What edits do to a page, and to a level.
-pub fn edits_stand() -> u8
+pub fn edits_stand()
     ensures pieces { PiecesFit }
     ensures level { LevelEdit }
     ensures any { LevelAny }
-{
-    0
-}
+{}
 
 // What a level's change does above it.
-pub fn levels_rise() -> u8
+pub fn levels_rise()
     ensures heads { HeadsRise }
     ensures puts { RaisedPuts }
     ensures splice { Splice }
     ensures new_level { NewLevel }
     ensures trim { TrimStands }
-{
-    0
-}
+{}
 
 // Looking for a key, level by level.
-pub fn looks_stand() -> u8
+pub fn looks_stand()
     ensures at_step { AtStep }
     ensures under_step { UnderStep }
     ensures parts { BelongsParts }
@@ -66,33 +56,27 @@ pub fn looks_stand() -> u8
     ensures last { LastFound }
     ensures none { NoneFound }
     ensures same { SameLead }
-{
-    0
-}
+{}
 
 // The whole way down, in a store of pages by name.
-pub fn ways_stand() -> u8
+pub fn ways_stand()
     ensures stored { StandsStored }
     ensures reaches { DownReaches }
     ensures under { DownUnder }
     ensures exact { DownExact }
     ensures names { NamesApart }
     ensures before { DownBefore }
-{
-    0
-}
+{}
 
 // What is looked for in a tree is what the list of all its entries says.
-pub fn seeks_stand() -> u8
+pub fn seeks_stand()
     ensures from { SeekFrom }
     ensures before { SeekBefore }
     ensures leaf { SeekLeaf }
-{
-    0
-}
+{}
 
 // A change of a tree, from its leaves up.
-pub fn changes_stand() -> u8
+pub fn changes_stand()
     ensures leaf { LeafChange }
     ensures replaced { ReplaceIs }
     ensures grown { ReplaceGrown }
@@ -103,48 +87,36 @@ pub fn changes_stand() -> u8
     ensures top { TopLinks }
     ensures whole { WholeChange }
     ensures whole_first { WholeFirst }
-{
-    0
-}
+{}
 
 // How much one change puts.
-pub fn writes_few() -> u8
+pub fn writes_few()
     ensures pages { NewPages }
     ensures inner { Seventeen }
     ensures leaf { LeafSix }
     ensures whole { WholeFew }
     ensures touched { TouchedThree }
-{
-    0
-}
+{}
 
 // A tree that stands and a change of it: the laws' premises can be met.
-pub fn witness_stands() -> u8
+pub fn witness_stands()
     ensures witness { Witness }
     ensures changed { Changed }
-{
-    0
-}
+{}
 
 // Pages as bytes.
-pub fn bytes_stand() -> u8
+pub fn bytes_stand()
     ensures { BytesAre }
-{
-    0
-}
+{}
 
 // Want of room says how much is kept, and a tree that stands takes no more pages than what its entries weigh allows.
-pub fn room_stands() -> u8
+pub fn room_stands()
     ensures sized { StandsSized }
     ensures says { RoomSays }
-{
-    0
-}
+{}
 
 // Many maps in one list: what is done to one is done to its entries, and what is looked for is what it has.
-pub fn many_stand() -> u8
+pub fn many_stand()
     ensures maps { ManyMaps }
     ensures rise { ManyRise }
-{
-    0
-}
+{}

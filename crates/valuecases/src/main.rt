@@ -1,115 +1,65 @@
 // Worked examples of values: the samples as rows and as keys, all pairs of them compared both ways, sums and products at the edges of 64 bits, tests with null, and texts of 4,000 bytes and one more.
 #![tactic(auto)]
 
+mod shown;
+
+use shown::{Hex, KeyRead, RowRead, Shown};
 use std::io;
 use values::back::first_column;
 use values::key::write_column;
-use values::row::{column, columns, write_value};
+use values::row::write_value;
 use values::{Truth, Value};
 
 // The samples, in their order.
-const SAMPLES: usize = 18;
+const SAMPLES: [Value; 18] = [
+    Value::Null,
+    Value::Number(i64::MIN),
+    Value::Number(-256),
+    Value::Number(-1),
+    Value::Number(0),
+    Value::Number(1),
+    Value::Number(256),
+    Value::Number(i64::MAX),
+    Value::Text(b""),
+    Value::Text(b"\x00"),
+    Value::Text(b"\x00\x00"),
+    Value::Text(b"\x00\x01"),
+    Value::Text(b"\x00\xff"),
+    Value::Text(b"\x01"),
+    Value::Text(b"ab"),
+    Value::Text(b"ab\x00"),
+    Value::Text(b"abc"),
+    Value::Text(b"\xff"),
+];
 
-fn sample(n: usize) -> Value<'static> {
-    match n {
-        0 => Value::Null,
-        1 => Value::Number(i64::MIN),
-        2 => Value::Number(-256),
-        3 => Value::Number(-1),
-        4 => Value::Number(0),
-        5 => Value::Number(1),
-        6 => Value::Number(256),
-        7 => Value::Number(i64::MAX),
-        8 => Value::Text(b""),
-        9 => Value::Text(b"\x00"),
-        10 => Value::Text(b"\x00\x00"),
-        11 => Value::Text(b"\x00\x01"),
-        12 => Value::Text(b"\x00\xff"),
-        13 => Value::Text(b"\x01"),
-        14 => Value::Text(b"ab"),
-        15 => Value::Text(b"ab\x00"),
-        16 => Value::Text(b"abc"),
-        _ => Value::Text(b"\xff"),
-    }
-}
+const TRUTHS: [Truth; 3] = [Truth::Holds, Truth::Fails, Truth::Unknown];
 
-fn print_hex(rt: &HostRuntime, bytes: &[u8]) -> io::Result<()> {
-    for byte in bytes {
-        print!(rt; "{byte:02x}")?;
-    }
-    Ok(())
-}
-
-fn print_value(rt: &HostRuntime, value: Value) -> io::Result<()> {
-    match value {
-        Value::Null => print!(rt; "null"),
-        Value::Number(n) => print!(rt; "{n}"),
-        Value::Text(text) => {
-            print!(rt; "'")?;
-            print_hex(rt, text)?;
-            print!(rt; "'")
-        }
-    }
-}
-
-fn print_labelled(rt: &HostRuntime, label: &str, value: Value) -> io::Result<()> {
-    print!(rt; "{label} = ")?;
-    print_value(rt, value)?;
-    println!(rt; "")
-}
-
-// The bytes of a column, written behind `out`'s front.
+// The bytes of a column, written to the front of `out`.
 fn key_of<'a>(value: Value, falling: bool, out: &'a mut [u8; 64]) -> &'a [u8] {
-    let end = match write_column(value, falling, out, 0) {
-        Some(end) => end,
-        None => 0,
-    };
-    if end > 64 {
-        return b"";
-    }
-    &out[0..end]
+    let end = write_column(value, falling, out, 0).unwrap_or(0);
+    out.get(..end).unwrap_or(b"")
+}
+
+fn row_of<'a>(value: Value, out: &'a mut [u8; 64]) -> &'a [u8] {
+    let end = write_value(value, out, 0).unwrap_or(0);
+    out.get(..end).unwrap_or(b"")
 }
 
 // A sample as a row of one column and as a key, and what is read of both.
 fn print_sample(rt: &HostRuntime, value: Value) -> io::Result<()> {
-    print_value(rt, value)?;
-    let weight = value.weight();
-    print!(rt; ": weighs {weight}, row ")?;
-    let mut row = [0u8; 64];
-    let _end = write_value(value, &mut row, 0);
-    if weight <= 64 {
-        print_hex(rt, &row[0..weight])?;
-        print_read(rt, &row[0..weight])?;
-    }
-    let mut key = [0u8; 64];
-    print!(rt; ", rising ")?;
-    print_hex(rt, key_of(value, false, &mut key))?;
-    print_back(rt, key_of(value, false, &mut key))?;
-    print!(rt; ", falling ")?;
-    print_hex(rt, key_of(value, true, &mut key))?;
-    println!(rt; "")
-}
-
-// How many columns a row has, and its first.
-fn print_read(rt: &HostRuntime, row: &[u8]) -> io::Result<()> {
-    let Some(count) = columns(row) else {
-        return print!(rt; " (no row)");
-    };
-    print!(rt; " ({count}: ")?;
-    if let Some(value) = column(row, 0) {
-        print_value(rt, value)?;
-    }
-    print!(rt; ")")
-}
-
-fn print_back(rt: &HostRuntime, key: &[u8]) -> io::Result<()> {
-    let mut text = [0u8; 4000];
-    let Some(first) = first_column(key, &mut text) else {
-        return print!(rt; " (no column)");
-    };
-    print!(rt; " (")?;
-    print_value(rt, first.value)?;
-    print!(rt; ")")
+    let mut bytes = [0u8; 64];
+    let row = row_of(value, &mut bytes);
+    print!(rt;
+        "{}: weighs {}, row {} {}",
+        Shown(value),
+        value.weight(),
+        Hex(row),
+        RowRead(row)
+    )?;
+    let rising = key_of(value, false, &mut bytes);
+    print!(rt; ", rising {} {}", Hex(rising), KeyRead(rising))?;
+    let falling = key_of(value, true, &mut bytes);
+    println!(rt; ", falling {}", Hex(falling))
 }
 
 // Whether the bytes of two keys compare as their values do.
@@ -123,10 +73,10 @@ fn agree(a: Value, b: Value) -> bool {
 
 fn print_pairs(rt: &HostRuntime) -> io::Result<()> {
     let mut wrong = 0u32;
-    for i in 0..SAMPLES {
-        for j in 0..SAMPLES {
-            if !agree(sample(i), sample(j)) || sample(i).less(sample(j)) != (i < j) {
-                wrong = wrong.wrapping_add(1);
+    for (i, &a) in SAMPLES.iter().enumerate() {
+        for (j, &b) in SAMPLES.iter().enumerate() {
+            if !agree(a, b) || a.less(b) != (i < j) {
+                wrong = wrong.saturating_add(1);
             }
         }
     }
@@ -137,59 +87,62 @@ fn print_numbers(rt: &HostRuntime) -> io::Result<()> {
     let least = Value::Number(i64::MIN);
     let most = Value::Number(i64::MAX);
     let one = Value::Number(1);
-    print_labelled(rt, "most + 1", most.plus(one))?;
-    print_labelled(rt, "most + least", most.plus(least))?;
-    print_labelled(rt, "least - 1", least.minus(one))?;
-    print_labelled(rt, "0 - least", least.negated())?;
-    print_labelled(rt, "0 - most", most.negated())?;
-    print_labelled(rt, "least * -1", least.times(Value::Number(-1)))?;
-    print_labelled(rt, "-1 * most", Value::Number(-1).times(most))?;
-    print_labelled(
-        rt,
-        "4294967296 * 2147483648",
-        Value::Number(4294967296).times(Value::Number(2147483648)),
-    )?;
-    print_labelled(
-        rt,
-        "4294967296 * 2147483647",
-        Value::Number(4294967296).times(Value::Number(2147483647)),
-    )?;
-    print_labelled(rt, "null + 1", Value::Null.plus(one))?;
-    print_labelled(rt, "1 * 'a'", one.times(Value::Text(b"a")))
-}
-
-fn truth_at(n: usize) -> Truth {
-    match n {
-        0 => Truth::Holds,
-        1 => Truth::Fails,
-        _ => Truth::Unknown,
+    let below_one = Value::Number(-1);
+    let two_to_32 = Value::Number(4294967296);
+    let results = [
+        ("most + 1", most.plus(one)),
+        ("most + least", most.plus(least)),
+        ("least - 1", least.minus(one)),
+        ("0 - least", least.negated()),
+        ("0 - most", most.negated()),
+        ("least * -1", least.times(below_one)),
+        ("-1 * most", below_one.times(most)),
+        (
+            "4294967296 * 2147483648",
+            two_to_32.times(Value::Number(2147483648)),
+        ),
+        (
+            "4294967296 * 2147483647",
+            two_to_32.times(Value::Number(2147483647)),
+        ),
+        ("null + 1", Value::Null.plus(one)),
+        ("1 * 'a'", one.times(Value::Text(b"a"))),
+    ];
+    for (label, result) in results {
+        println!(rt; "{label} = {}", Shown(result))?;
     }
+    Ok(())
 }
 
 fn print_tests(rt: &HostRuntime) -> io::Result<()> {
-    for i in 0..3 {
-        print_labelled(rt, "not", truth_at(i).not().value())?;
-        for j in 0..3 {
-            print_value(rt, truth_at(i).value())?;
-            print!(rt; ", ")?;
-            print_value(rt, truth_at(j).value())?;
-            print!(rt; ": and ")?;
-            print_value(rt, truth_at(i).and(truth_at(j)).value())?;
-            print!(rt; ", or ")?;
-            print_value(rt, truth_at(i).or(truth_at(j)).value())?;
-            println!(rt; "")?;
+    for a in TRUTHS {
+        println!(rt; "not = {}", Shown(a.not().into()))?;
+        for b in TRUTHS {
+            let and = Shown(a.and(b).into());
+            let or = Shown(a.or(b).into());
+            println!(rt;
+                "{}, {}: and {and}, or {or}",
+                Shown(a.into()),
+                Shown(b.into())
+            )?;
         }
     }
-    print_compared(rt, Value::Null, Value::Null)?;
-    print_compared(rt, Value::Null, Value::Number(0))?;
-    print_compared(rt, Value::Number(-1), Value::Number(1))?;
-    print_compared(rt, Value::Text(b"ab"), Value::Text(b"ab"))
+    Ok(())
 }
 
-fn print_compared(rt: &HostRuntime, a: Value, b: Value) -> io::Result<()> {
-    print_labelled(rt, "equal", a.equal(b))?;
-    print_labelled(rt, "below", a.below(b))?;
-    print_labelled(rt, "at most", a.at_most(b))
+fn print_compared(rt: &HostRuntime) -> io::Result<()> {
+    let pairs = [
+        (Value::Null, Value::Null),
+        (Value::Null, Value::Number(0)),
+        (Value::Number(-1), Value::Number(1)),
+        (Value::Text(b"ab"), Value::Text(b"ab")),
+    ];
+    for (a, b) in pairs {
+        println!(rt; "equal = {}", Shown(a.equal(b)))?;
+        println!(rt; "below = {}", Shown(a.below(b)))?;
+        println!(rt; "at most = {}", Shown(a.at_most(b)))?;
+    }
+    Ok(())
 }
 
 fn text_length(value: Value) -> usize {
@@ -203,53 +156,54 @@ fn text_length(value: Value) -> usize {
 fn print_long(rt: &HostRuntime) -> io::Result<()> {
     let mut out = [0u8; 4000];
     let zeros = [0u8; 4001];
-    let half = Value::Text(&zeros[0..2000]);
+    let half = Value::Text(&zeros[..2000]);
     let joined = text_length(half.concat(half, &mut out));
-    let over = half
-        .concat(Value::Text(&zeros[0..2001]), &mut out)
-        .is_null();
+    let over = half.concat(Value::Text(&zeros[..2001]), &mut out).is_null();
     println!(rt; "2000 and 2000 bytes make {joined}; one more makes null: {over}")?;
     let mut key = [0u8; 9000];
-    let longest = write_column(Value::Text(&zeros[0..4000]), false, &mut key, 0);
-    let Some(end) = longest else {
+    let Some(end) = write_column(Value::Text(&zeros[..4000]), false, &mut key, 0) else {
         return println!(rt; "no room for a key");
     };
     println!(rt; "the key of 4000 zeros has {end} bytes")?;
-    if end <= 9000 {
-        let back = match first_column(&key[0..end], &mut out) {
-            Some(first) => text_length(first.value),
-            None => 0,
-        };
-        println!(rt; "and is read back as {back}")?;
-    }
-    let Some(end) = write_column(Value::Text(&zeros[0..4001]), false, &mut key, 0) else {
+    let back = key
+        .get(..end)
+        .and_then(|bytes| first_column(bytes, &mut out));
+    println!(rt;
+        "and is read back as {}",
+        back.map_or(0, |first| text_length(first.value))
+    )?;
+    let Some(end) = write_column(Value::Text(&zeros), false, &mut key, 0) else {
         return println!(rt; "no room for a key");
     };
-    let read = end <= 9000 && first_column(&key[0..end], &mut out).is_some();
-    println!(rt; "the key of 4001 zeros has {end} bytes, and is read back: {read}")
+    let back = key
+        .get(..end)
+        .and_then(|bytes| first_column(bytes, &mut out));
+    println!(rt;
+        "the key of 4001 zeros has {end} bytes, and is read back: {}",
+        back.is_some()
+    )
 }
 
 // Bytes that are no row: a kind that is none, a number and a text that are cut short; and those of a row of two columns.
 fn print_broken(rt: &HostRuntime) -> io::Result<()> {
-    print!(rt; "03:")?;
-    print_read(rt, b"\x03")?;
-    print!(rt; ", 010000:")?;
-    print_read(rt, b"\x01\x00\x00")?;
-    print!(rt; ", 02000261:")?;
-    print_read(rt, b"\x02\x00\x02a")?;
-    print!(rt; ", 0002000161:")?;
-    print_read(rt, b"\x00\x02\x00\x01a")?;
-    println!(rt; "")
+    println!(rt;
+        "03: {}, 010000: {}, 02000261: {}, 0002000161: {}",
+        RowRead(b"\x03"),
+        RowRead(b"\x01\x00\x00"),
+        RowRead(b"\x02\x00\x02a"),
+        RowRead(b"\x00\x02\x00\x01a")
+    )
 }
 
 fn main(rt: HostRuntime) -> anyhow::Result<()> {
-    for n in 0..SAMPLES {
-        print_sample(&rt, sample(n))?;
+    for value in SAMPLES {
+        print_sample(&rt, value)?;
     }
     print_broken(&rt)?;
     print_pairs(&rt)?;
     print_numbers(&rt)?;
     print_tests(&rt)?;
+    print_compared(&rt)?;
     print_long(&rt)?;
     Ok(())
 }

@@ -9,10 +9,10 @@ use Rattle.meaning.specs.Value.{Value, Null, Num, Text, fits, less, same, less_z
 use Rattle.meaning.specs.Meaning.{same_all, earlier}
 use Rattle.meaning.specs.Doing.{weight, weight_all, key_weight}
 use Rattle.meaning.proofs.Order.{order-stands, true-holds}
-use Rattle.values.specs.Bytes.{be, Bytes}
+use Rattle.octets.specs.Numbers.{be, Bytes}
 use Rattle.values.specs.Key.{lifted, escaped, rising_code, code_of, code, Storable, KeysOrdered, KeysFollowed, KeysApart, KeysShort}
-use Rattle.values.proofs.Bytes.{length-be}
-use Rattle.values.proofs.Compared.{Verdict, Before, After, Alike, Compared, alike, before, after, more, next, opposite, verdict, decided, at-verdict, then-compared, turned-compared, compared-less, compared_same, be-compared, heads-compared}
+use Rattle.octets.proofs.Numbers.{length-be}
+use Rattle.octets.proofs.Compared.{Verdict, Before, After, Alike, Compared, alike, before, after, more, next, opposite, verdict, decided, at-verdict, then-compared, turned-compared, compared-less, compared_same, be-compared, heads-compared}
 
 -- a number that fits is below 2^63 in size
 

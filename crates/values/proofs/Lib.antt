@@ -1,6 +1,5 @@
 pub mod Numbers
-pub mod Bytes
-pub mod Compared
+pub mod Ordered
 pub mod Keys
 pub mod Writing
 pub mod Rows

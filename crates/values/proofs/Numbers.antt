@@ -1,14 +1,10 @@
--- The order of the code and that of the meaning; `fits` by whether 64 bits hold a number. Assumes nothing.
-use Rattle.std.proofs.Common.{◌≡◌, ℕ, zero, suc, ◌+◌, ◌<◌, ◌≤◌, Bool, List, ◌++◌, length, ℤ, pos, negsuc, Some, None, Option, sym, refl, ap, ◌∙◌, arith, w64, SFits, of_z}
-use lib.Signed.{lt_z}
-use Rattle.std.specs.Ordering.{is_lt, is_some_and, nat_cmp}
+-- `fits` by whether 64 bits hold a number, and texts that are joined. Assumes nothing.
+use Rattle.std.proofs.Common.{[], ◌∷◌, get_or, Fits, w8, ◌≡◌, ℕ, suc, ◌+◌, ◌<◌, ◌≤◌, List, ◌++◌, length, ℤ, pos, negsuc, Some, None, Option, sym, ap, ◌∙◌, arith, w64, SFits}
 use Rattle.std.specs.Option.{SomeIff}
+use Rattle.octets.specs.Numbers.{Bytes}
 use Rattle.values.specs.Meant.{number_or}
-use Rattle.std.specs.Cmp.Lexicographic.{slice_partial_cmp}
-use Rattle.std.proofs.lemmas.Cmp.{same_from_slice_cmp_tested}
-use Rattle.std.proofs.lemmas.Bool.Decides.{nat_tests}
 use Rattle.std.proofs.lemmas.Bool.{cond-true, cond-false, lt-ltb, le-ltb}
-use Rattle.meaning.specs.Value.{Null, Num, Text, Holds, Fails, fits, less_z, less_bytes, truth, joined}
+use Rattle.meaning.specs.Value.{Null, Num, Text, fits, joined}
 
 -- a number that 64 bits hold, and one that they don't
 pub fits-some : (z : ℤ) → SFits w64 z → fits z ≡ Num z
@@ -26,33 +22,12 @@ pub checked-is : (o : Option ℤ) (z : ℤ) → SomeIff o (SFits w64 z) z → nu
 checked-is None z h = sym (fits-none z h)
 checked-is (Some n) z h = ap Num h.1 ∙ sym (fits-some z h.0)
 
--- `<` on numbers
-pub lt_z-is : (a b : ℤ) → lt_z a b ≡ less_z a b
-unfolding less_z
-lt_z-is (pos a) (pos b) = refl
-lt_z-is (pos a) (negsuc b) = refl
-lt_z-is (negsuc a) (pos b) = refl
-lt_z-is (negsuc a) (negsuc b) = refl
-
--- `<` on slices
-pub lex-is : (xs ys : List ℕ) (r : Bool) → r ≡ is_some_and is_lt (slice_partial_cmp (λ x y. Some (nat_cmp x y)) xs ys) → r ≡ less_bytes xs ys
-unfolding less_bytes
-lex-is = same_from_slice_cmp_tested nat_cmp is_lt less_bytes refl (λ _ _. refl) (λ _ _. refl) (λ x y xs ys o h. grind (arith, nat_tests))
-
--- the test for 0
-pub zero-fails : (z : ℤ) → SFits w64 z → of_z w64 z ≡ 0 → Fails ≡ truth (Num z)
-unfolding truth
-zero-fails (pos zero) f h = refl
-zero-fails (pos (suc n)) f h = absurd (omega arith)
-zero-fails (negsuc n) f h = absurd (omega (arith, f.sfits))
-
-pub other-holds : (z : ℤ) → (of_z w64 z ≡ 0 → ⊥) → Holds ≡ truth (Num z)
-unfolding truth
-other-holds (pos zero) h = absurd (h refl)
-other-holds (pos (suc n)) h = refl
-other-holds (negsuc n) h = refl
-
 -- texts that make at most 4,000 bytes
 pub joined-short : (a b : List ℕ) → length a + length b ≤ 4000 → Text (a ++ b) ≡ joined (Text a) (Text b)
 unfolding joined
 joined-short a b h = sym (cond-false _ _ _ (le-ltb 4000 (length a + length b) h))
+
+-- what a slice holds are bytes
+pub bytes-from : (l : List ℕ) → ((i : ℕ) → Fits w8 (get_or l i 0)) → Bytes l
+bytes-from [] h = tt
+bytes-from (x ∷ l) h = ((h 0).fits, bytes-from l (λ i. h (suc i)))

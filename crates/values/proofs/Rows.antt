@@ -1,19 +1,26 @@
 -- Rows as bytes: what is written is read, and what is read was written. Assumes nothing.
-use Rattle.std.proofs.Common.{◌≡◌, ℕ, zero, suc, ◌+◌, ◌-◌, ◌<◌, ◌≤◌, Bool, true, false, cond, eqb, ltb, leb, ◌⊎◌, List, [], ◌∷◌, ◌++◌, length, get_or, take, drop, ℤ, pos, negsuc, Some, None, Option, sym, refl, ap, ◌∙◌, subst, inl, inr, append_assoc, append-nil, arith, length-append, length-drop}
-use Rattle.std.specs.Option.{option_map}
+use Rattle.std.proofs.Common.{◌≡◌, ℕ, zero, suc, ◌+◌, ◌-◌, ◌<◌, ◌≤◌, Bool, true, false, cond, eqb, ltb, leb, ◌⊎◌, List, [], ◌∷◌, ◌++◌, length, take, drop, ℤ, pos, negsuc, Some, None, Option, sym, refl, ap, ◌∙◌, subst, inl, inr, append_assoc, append-nil, arith, length-append, length-drop}
+use Rattle.std.specs.Option.{option_map, MatchOption, is_some}
+use Rattle.std.specs.Bool.{then_some}
+use Rattle.meaning.proofs.Order.{clash}
+use Rattle.std.specs.Iterator.{YieldsThen}
 use Rattle.std.specs.Int.Digits.{number_from_digits}
 use Rattle.std.proofs.ByRecursion.{All-take, All-drop}
-use Rattle.std.proofs.lemmas.List.{take_at, drop_at, take-append-drop, length-take-le, take_all, nil_from_length}
+use Rattle.std.proofs.lemmas.List.{take_at, drop_at, take-append-drop, length-take-le, nil_from_length}
 use Rattle.std.proofs.lemmas.Int.Digits.{number_lt}
 use Rattle.std.proofs.lemmas.Bool.{cond-true, cond-false, lt-ltb, le-ltb, le-leb, leb-true, eqb-true, ltb-true, ltb-false, ne_eqb}
 use Rattle.std.proofs.lemmas.Bool.Decides.{nat_tests}
 use Rattle.meaning.specs.Value.{Value, Null, Num, Text}
 use Rattle.meaning.specs.Meaning.{nth}
 use Rattle.meaning.specs.Doing.{weight, weight_all}
-use Rattle.values.specs.Bytes.{be, Bytes}
+use Rattle.octets.specs.Numbers.{be, Bytes}
 use Rattle.values.specs.Key.{lifted, Storable}
-use Rattle.values.specs.Row.{bytes_of, row_bytes, lowered, Split, text_front, chained, front_of, front, column_of, row_by, row_of, RowsRead, RowsWritten, RowsColumns, RowsWeigh}
-use Rattle.values.proofs.Bytes.{length-be, number-be, be-number}
+use Rattle.values.specs.Row.{bytes_of, row_bytes, lowered, Split, text_front, Takes, chained, front_of, front, column_of, row_by, row_of, RowsRead, RowsWritten, RowsColumns, RowsWeigh}
+use Rattle.values.specs.Meant.{meaning_of}
+use Rattle.values.specs.declared.Value as V
+use Rattle.values.specs.declared.row.Values.{Values}
+use Rattle.values.specs.contracts.row.ValuesIterator.TheImpl.{next_gives-value}
+use Rattle.octets.proofs.Numbers.{length-be, number-be, be-number}
 use Rattle.values.proofs.Keys.{Held, held-storable, lifted-below}
 
 -- numbers with 2^63 added and taken away
@@ -244,6 +251,13 @@ unfolding column_of
 column-more zero bs s z e = absurd (omega arith)
 column-more (suc i) bs s z e = ap (λ (o : Option Split). chained o (λ (t : Split). column_of i t.rest)) e ∙ ap (λ n. column_of n s.rest) (omega arith)
 
+-- taking values off, one after the other, gives the columns
+pub nth-is : (i : ℕ) (s t : Values) (vs : List V.Value) (r : Option V.Value) → YieldsThen next_gives-value.it s vs r t → MatchOption r (length vs ≤ i) (λ v. length vs ≡ i) → option_map meaning_of r ≡ column_of i s.rest.now
+nth-is i s t [] None (j, e, a) m = sym (column-none i s.rest.now (ap (λ (k : Values). front k.rest.now) e ∙ a.0))
+nth-is i s t [] (Some v) (j, e, a) m = sym (column-here i s.rest.now (record { value = meaning_of v; rest = t.rest.now }) (omega arith) (ap (λ (k : Values). front k.rest.now) e ∙ a))
+nth-is i s t (w ∷ vs) None (j, (u, a, y), b) m = nth-is (i - 1) u t vs None (j, y, b) (omega arith) ∙ sym (column-more i s.rest.now (record { value = meaning_of w; rest = u.rest.now }) (omega arith) a)
+nth-is i s t (w ∷ vs) (Some v) (j, (u, a, y), b) m = nth-is (i - 1) u t vs (Some v) (j, y, b) (omega arith) ∙ sym (column-more i s.rest.now (record { value = meaning_of w; rest = u.rest.now }) (omega arith) a)
+
 row-columns : (f : ℕ) (bs : List ℕ) (vs : List Value) (i : ℕ) → row_by f bs ≡ Some vs → column_of i bs ≡ cond (ltb i (length vs)) (Some (nth i vs)) None
 unfolding row_by nth
 row-columns f [] vs i e = column-none i [] front-nil ∙ sym (cond-false (ltb i 0) (Some (nth i [])) None (le-ltb i 0 (omega arith))) ∙ ap (λ (ws : List Value). cond (ltb i (length ws)) (Some (nth i ws)) None) (sym (same_some [] vs e))
@@ -268,22 +282,32 @@ rows-columns bs vs i e = row-columns (length bs) bs vs i e
 
 -- the steps of reading
 
-pub front-parts : (bs : List ℕ) → (length bs ≡ 0 → ⊥) → front bs ≡ front_of (get_or bs 0 0) (take (length bs - 1) (drop 1 bs))
-unfolding front
-front-parts [] h = absurd (h refl)
-front-parts (kind ∷ bs) h = let n : suc (length bs) - 1 ≡ length bs = omega arith in ap (front_of kind) (sym (take_all (length bs) bs (omega arith)) ∙ ap (λ k. take k bs) (sym n))
-
 pub front-none : (bs : List ℕ) → length bs ≡ 0 → front bs ≡ None
 front-none bs h = ap front (nil_from_length bs h) ∙ front-nil
 
-pub front-other : (kind : ℕ) (bs : List ℕ) → (kind ≡ 0 → ⊥) → (kind ≡ 1 → ⊥) → (kind ≡ 2 → ⊥) → front_of kind bs ≡ None
-front-other kind bs h k l = rw (ne_eqb kind 0 h, ne_eqb kind 1 k, ne_eqb kind 2 l) refl
+pub front-is : (bs rest : List ℕ) (byte kind : ℕ) → bs ≡ byte ∷ rest → byte ≡ kind → front bs ≡ front_of kind rest
+unfolding front
+front-is bs rest byte kind e f = ap front e ∙ ap (λ k. front_of k rest) f
+
+pub front-other : (bs rest : List ℕ) (byte : ℕ) → bs ≡ byte ∷ rest → 2 < byte → front bs ≡ None
+front-other bs rest byte e h = front-is bs rest byte byte e refl ∙ rw (ne_eqb byte 0 (λ k. omega arith), ne_eqb byte 1 (λ k. omega arith), ne_eqb byte 2 (λ k. omega arith)) refl
 
 -- a count of columns goes on and ends
-pub count-more : (n : ℕ) (v : Value) (o : Option (List Value)) → option_map (λ (vs : List Value). n + 1 + length vs) o ≡ option_map (λ (vs : List Value). n + length vs) (option_map (λ (vs : List Value). v ∷ vs) o)
+count-more : (n : ℕ) (v : Value) (o : Option (List Value)) → option_map (λ (vs : List Value). n + 1 + length vs) o ≡ option_map (λ (vs : List Value). n + length vs) (option_map (λ (vs : List Value). v ∷ vs) o)
 count-more n v None = refl
 count-more n v (Some vs) = ap Some (omega arith)
 
-pub count_none : (n : ℕ) (bs : List ℕ) → length bs ≡ 0 → Some n ≡ option_map (λ (vs : List Value). n + length vs) (row_of bs)
+pub count-taken : (n : ℕ) (bs rest : List ℕ) (r : Option V.Value) → Takes bs r rest → true ≡ is_some r → (option_map (λ (vs : List Value). n + 1 + length vs) (row_of rest) ≡ option_map (λ (vs : List Value). n + length vs) (row_of bs)) × (length rest < length bs)
+count-taken n bs rest None t e = clash (sym e)
+count-taken n bs rest (Some v) t e =
+    let s : Split = record { value = meaning_of v; rest = rest } in
+    (count-more n s.value (row_of rest) ∙ ap (option_map (λ (vs : List Value). n + length vs)) (sym (row-front bs s t)), front-shorter bs s t)
+
+pub count-ends : (n : ℕ) (bs rest : List ℕ) (r : Option V.Value) → Takes bs r rest → false ≡ is_some r → then_some (eqb (length rest) 0) n ≡ option_map (λ (vs : List Value). n + length vs) (row_of bs)
 unfolding row_by
-count_none n bs h = ap Some (omega arith) ∙ ap (λ (l : List ℕ). option_map (λ (vs : List Value). n + length vs) (row_of l)) (sym (nil_from_length bs h))
+count-ends n bs rest (Some v) t e = clash (cc)
+count-ends n bs rest None t e = ap (λ (l : List ℕ). then_some (eqb (length l) 0) n) t.1 ∙ go bs t.0
+  where
+    go : (l : List ℕ) → front l ≡ None → then_some (eqb (length l) 0) n ≡ option_map (λ (vs : List Value). n + length vs) (row_of l)
+    go [] f = ap Some (omega arith)
+    go (b ∷ l) f = ap (λ t. then_some t n) (ne_eqb (suc (length l)) 0 (λ z. omega arith)) ∙ ap (option_map (λ (vs : List Value). n + length vs)) (sym (row-stops (length (b ∷ l)) (b ∷ l) (λ z. omega arith) f))

@@ -1,69 +1,52 @@
 -- Keys read back: the steps, and that what is written is read and what is read was written. Assumes nothing.
-use Rattle.std.proofs.Common.{◌≡◌, ℕ, zero, suc, ◌+◌, ◌-◌, ◌<◌, ◌≤◌, true, cond, eqb, ◌⊎◌, List, [], ◌∷◌, ◌++◌, length, get_or, take, drop, set, Some, None, Option, sym, refl, ap, ◌∙◌, inl, inr, append_assoc, append-nil, arith, length-drop}
+use Rattle.std.proofs.Common.{◌≡◌, ℕ, zero, suc, ◌+◌, ◌-◌, ◌<◌, ◌≤◌, true, cond, eqb, ◌⊎◌, List, [], ◌∷◌, ◌++◌, length, take, set, Some, None, Option, sym, refl, ap, ◌∙◌, inl, inr, append_assoc, append-nil, arith}
 use Rattle.std.specs.Option.{option_map}
-use Rattle.std.proofs.lemmas.List.{drop_more, drop_all, take_more_set, take_all}
+use Rattle.std.proofs.lemmas.List.{take_more_set}
 use Rattle.std.proofs.lemmas.Bool.{cond-true, cond-false, eq-eqb, ne_eqb, eqb-true}
 use Rattle.meaning.specs.Value.{Null, Num, Text}
 use Rattle.meaning.specs.Doing.{weight}
-use Rattle.values.specs.Bytes.{Bytes}
+use Rattle.octets.specs.Numbers.{Bytes}
 use Rattle.values.specs.Key.{escaped, rising_code}
 use Rattle.values.specs.Row.{Split, bytes_of, front, front_of}
 use Rattle.values.specs.Back.{Taken, added, unescaped, text_back, back_of, back, ColumnsRead, ColumnsWritten}
 use Rattle.values.proofs.Rows.{guarded, chosen, same_some, never-none, front_read, number-written, View, view}
 
--- what stands at a place
+-- what a text goes on with
 
 unescaped-other : (room b : ℕ) (bs : List ℕ) → (b ≡ 0 → ⊥) → unescaped room (b ∷ bs) ≡ added room b (unescaped (room - 1) bs)
 unfolding unescaped
 unescaped-other room zero bs h = absurd (h refl)
 unescaped-other room (suc b) bs h = refl
 
-unescaped-end : (room b m : ℕ) (bs : List ℕ) → b ≡ 0 → m ≡ 1 → unescaped room (b ∷ m ∷ bs) ≡ Some (record { text = []; rest = bs })
+pub nothing-stands : (bs : List ℕ) (room : ℕ) → length bs ≡ 0 → unescaped room bs ≡ None
 unfolding unescaped
-unescaped-end room zero m bs e f = cond-true _ _ _ (eq-eqb m 1 f)
-unescaped-end room (suc b) m bs e f = absurd (omega arith)
+nothing-stands [] room h = refl
+nothing-stands (b ∷ bs) room h = absurd (omega arith)
 
-unescaped-zero : (room b m : ℕ) (bs : List ℕ) → b ≡ 0 → m ≡ 255 → unescaped room (b ∷ m ∷ bs) ≡ added room 0 (unescaped (room - 1) bs)
+pub byte-stands : (bs rest : List ℕ) (b room : ℕ) → bs ≡ b ∷ rest → (b ≡ 0 → ⊥) → unescaped room bs ≡ added room b (unescaped (room - 1) rest)
+byte-stands bs rest b room e h = ap (unescaped room) e ∙ unescaped-other room b rest h
+
+-- a 0 and nothing behind it, or a mark
+pub zero-stands : (bs rest : List ℕ) (b room : ℕ) → bs ≡ b ∷ rest → b ≡ 0 → unescaped room bs ≡ unescaped room (0 ∷ rest)
+zero-stands bs rest b room e h = ap (unescaped room) e ∙ ap (λ k. unescaped room (k ∷ rest)) h
+
+pub cut-stands : (rest : List ℕ) (room : ℕ) → length rest ≡ 0 → unescaped room (0 ∷ rest) ≡ None
 unfolding unescaped
-unescaped-zero room zero m bs e f = cond-false _ _ _ (ne_eqb m 1 (λ g. omega arith)) ∙ cond-true _ _ _ (eq-eqb m 255 f)
-unescaped-zero room (suc b) m bs e f = absurd (omega arith)
+cut-stands [] room h = refl
+cut-stands (m ∷ bs) room h = absurd (omega arith)
 
-unescaped-broken : (room b m : ℕ) (bs : List ℕ) → b ≡ 0 → (m ≡ 1 → ⊥) → (m ≡ 255 → ⊥) → unescaped room (b ∷ m ∷ bs) ≡ None
-unfolding unescaped
-unescaped-broken room zero m bs e f g = cond-false _ _ _ (ne_eqb m 1 f) ∙ cond-false _ _ _ (ne_eqb m 255 g)
-unescaped-broken room (suc b) m bs e f g = absurd (omega arith)
+module _ (rest behind : List ℕ) (m room : ℕ) (e : rest ≡ m ∷ behind) where
+  pub end-stands : m ≡ 1 → unescaped room (0 ∷ rest) ≡ Some (record { text = []; rest = behind })
+  unfolding unescaped
+  end-stands f = ap (λ t. unescaped room (0 ∷ t)) e ∙ cond-true _ _ _ (eq-eqb m 1 f)
 
-unescaped-cut : (room b : ℕ) (bs : List ℕ) → b ≡ 0 → length bs ≡ 0 → unescaped room (b ∷ bs) ≡ None
-unfolding unescaped
-unescaped-cut room zero [] e h = refl
-unescaped-cut room zero (m ∷ bs) e h = absurd (omega arith)
-unescaped-cut room (suc b) bs e h = absurd (omega arith)
+  pub zero-goes-on : m ≡ 255 → unescaped room (0 ∷ rest) ≡ added room 0 (unescaped (room - 1) behind)
+  unfolding unescaped
+  zero-goes-on f = ap (λ t. unescaped room (0 ∷ t)) e ∙ cond-false _ _ _ (ne_eqb m 1 (λ g. omega arith)) ∙ cond-true _ _ _ (eq-eqb m 255 f)
 
-unescaped-nil : (room : ℕ) → unescaped room [] ≡ None
-unfolding unescaped
-unescaped-nil room = refl
-
-module _ (bs : List ℕ) (from room : ℕ) where
-  pub none_left : length bs ≤ from → unescaped room (drop from bs) ≡ None
-  none_left h = ap (unescaped room) (drop_all from bs h) ∙ unescaped-nil room
-
-  pub byte_left : from < length bs → (get_or bs from 0 ≡ 0 → ⊥) → unescaped room (drop from bs) ≡ added room (get_or bs from 0) (unescaped (room - 1) (drop (from + 1) bs))
-  byte_left h e = ap (unescaped room) (drop_more bs from 0 h) ∙ unescaped-other room (get_or bs from 0) (drop (from + 1) bs) e
-
-  pub one_left : from < length bs → get_or bs from 0 ≡ 0 → length bs - from < 2 → unescaped room (drop from bs) ≡ None
-  one_left h e k = ap (unescaped room) (drop_more bs from 0 h) ∙ unescaped-cut room (get_or bs from 0) (drop (from + 1) bs) e (let l = length-drop (from + 1) bs in omega arith)
-
-  two-left : 2 ≤ length bs - from → drop from bs ≡ get_or bs from 0 ∷ get_or bs (from + 1) 0 ∷ drop (from + 2) bs
-  two-left h = drop_more bs from 0 (omega arith) ∙ ap (λ t. get_or bs from 0 ∷ t) (drop_more bs (from + 1) 0 (omega arith) ∙ ap (λ n. get_or bs (from + 1) 0 ∷ drop n bs) (omega arith))
-
-  pub end-left : 2 ≤ length bs - from → get_or bs from 0 ≡ 0 → get_or bs (from + 1) 0 ≡ 1 → unescaped room (drop from bs) ≡ Some (record { text = []; rest = drop (from + 2) bs })
-  end-left h e f = ap (unescaped room) (two-left h) ∙ unescaped-end room (get_or bs from 0) (get_or bs (from + 1) 0) (drop (from + 2) bs) e f
-
-  pub zero_left : 2 ≤ length bs - from → get_or bs from 0 ≡ 0 → get_or bs (from + 1) 0 ≡ 255 → unescaped room (drop from bs) ≡ added room 0 (unescaped (room - 1) (drop (from + 2) bs))
-  zero_left h e f = ap (unescaped room) (two-left h) ∙ unescaped-zero room (get_or bs from 0) (get_or bs (from + 1) 0) (drop (from + 2) bs) e f
-
-  pub broken-left : 2 ≤ length bs - from → get_or bs from 0 ≡ 0 → (get_or bs (from + 1) 0 ≡ 1 → ⊥) → (get_or bs (from + 1) 0 ≡ 255 → ⊥) → unescaped room (drop from bs) ≡ None
-  broken-left h e f g = ap (unescaped room) (two-left h) ∙ unescaped-broken room (get_or bs from 0) (get_or bs (from + 1) 0) (drop (from + 2) bs) e f g
+  pub broken-stands : (m ≡ 1 → ⊥) → (m ≡ 255 → ⊥) → unescaped room (0 ∷ rest) ≡ None
+  unfolding unescaped
+  broken-stands f g = ap (λ t. unescaped room (0 ∷ t)) e ∙ cond-false _ _ _ (ne_eqb m 1 f) ∙ cond-false _ _ _ (ne_eqb m 255 g)
 
 -- a text that goes on behind what was taken
 
@@ -90,6 +73,9 @@ pub behind-end : (front rest : List ℕ) → Some (record { text = front; rest =
 unfolding behind
 behind-end front rest = λ i. Some (record { text = sym (append-nil front) i; rest = rest })
 
+pub nothing-mapped : {A B : Type 0} (f : A → B) (o : Option A) (p : Option B) → o ≡ None → None ≡ p → option_map f o ≡ p
+nothing-mapped f o p e h = ap (option_map f) e ∙ h
+
 -- the first byte of a column
 
 pub back-nil : (bs : List ℕ) → length bs ≡ 0 → back bs ≡ None
@@ -97,13 +83,12 @@ unfolding back
 back-nil [] h = refl
 back-nil (kind ∷ bs) h = absurd (omega arith)
 
-pub back-parts : (bs : List ℕ) → (length bs ≡ 0 → ⊥) → back bs ≡ back_of (get_or bs 0 0) (take (length bs - 1) (drop 1 bs))
+pub back-is : (bs rest : List ℕ) (byte kind : ℕ) → bs ≡ byte ∷ rest → byte ≡ kind → back bs ≡ back_of kind rest
 unfolding back
-back-parts [] h = absurd (h refl)
-back-parts (kind ∷ bs) h = let n : suc (length bs) - 1 ≡ length bs = omega arith in ap (back_of kind) (sym (take_all (length bs) bs (omega arith)) ∙ ap (λ k. take k bs) (sym n))
+back-is bs rest byte kind e f = ap back e ∙ ap (λ k. back_of k rest) f
 
-pub back-other : (kind : ℕ) (bs : List ℕ) → (kind ≡ 1 → ⊥) → (kind ≡ 2 → ⊥) → (kind ≡ 3 → ⊥) → back_of kind bs ≡ None
-back-other kind bs h k l = rw (ne_eqb kind 1 h, ne_eqb kind 2 k, ne_eqb kind 3 l) refl
+pub back-other : (bs rest : List ℕ) (byte : ℕ) → bs ≡ byte ∷ rest → (byte ≡ 0) ⊎ (3 < byte) → back bs ≡ None
+back-other bs rest byte e h = back-is bs rest byte byte e refl ∙ rw (ne_eqb byte 1 (λ k. omega arith), ne_eqb byte 2 (λ k. omega arith), ne_eqb byte 3 (λ k. omega arith)) refl
 
 -- what is written is read
 

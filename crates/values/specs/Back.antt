@@ -1,13 +1,13 @@
 -- What a column of a key is the code of: a rising column read back.
-use Rattle.std.specs.Prelude.{◌≡◌, ℕ, zero, suc, ◌-◌, ◌<◌, ◌≤◌, cond, List, [], ◌∷◌, ◌++◌, length, drop, Some, None, Option, ◌==◌}
+use Rattle.std.specs.Prelude.{◌≡◌, ℕ, zero, suc, ◌-◌, ◌<◌, ◌≤◌, cond, List, [], ◌∷◌, ◌++◌, length, Some, None, Option, ◌==◌}
 use Rattle.std.specs.Option.{option_map}
 use Rattle.meaning.specs.Value.{Value, Text}
 use Rattle.meaning.specs.Doing.{weight}
-use Rattle.values.specs.Bytes.{Bytes}
+use Rattle.octets.specs.Numbers.{Bytes}
 use Rattle.values.specs.Key.{rising_code, Storable}
 use Rattle.values.specs.Row.{Split, front_of}
 use Rattle.values.specs.declared.back.Next.{Next}
-use Rattle.values.specs.declared.back.Next.TheVariants.{Byte, End, Broken}
+use Rattle.values.specs.declared.back.Next.TheVariants.{Byte, End}
 
 -- a text, and the bytes behind it
 pub record Taken : Type 0 where
@@ -39,10 +39,10 @@ back [] = None
 back (kind ∷ bs) = back_of kind bs
 
 -- one byte of an escaped text, its end, or bytes that are none: whatever room there is
-abbrev pub Steps : List ℕ → ℕ → Next → Type 0
-Steps bs from (Byte b to) = ((room : ℕ) → unescaped room (drop from bs) ≡ added room b (unescaped (room - 1) (drop to bs))) × (from < to) × (to ≤ length bs)
-Steps bs from (End to) = ((room : ℕ) → unescaped room (drop from bs) ≡ Some (record { text = []; rest = drop to bs })) × (to ≤ length bs)
-Steps bs from Broken = (room : ℕ) → unescaped room (drop from bs) ≡ None
+abbrev pub Steps : List ℕ → Option Next → Type 0
+Steps bs (Some (Byte b rest)) = ((room : ℕ) → unescaped room bs ≡ added room b (unescaped (room - 1) rest.now)) × (length rest.now < length bs)
+Steps bs (Some (End rest)) = (room : ℕ) → unescaped room bs ≡ Some (record { text = []; rest = rest.now })
+Steps bs None = (room : ℕ) → unescaped room bs ≡ None
 
 -- what is written is read
 abbrev pub ColumnsRead : Type 0

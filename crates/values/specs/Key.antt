@@ -4,7 +4,7 @@ use Rattle.std.specs.List.{AllByRecursion}
 use Rattle.meaning.specs.Value.{Value, Null, Num, Text, fits, less_bytes}
 use Rattle.meaning.specs.Meaning.{same_all, earlier}
 use Rattle.meaning.specs.Doing.{weight, key_weight}
-use Rattle.values.specs.Bytes.{be, Bytes, turned}
+use Rattle.octets.specs.Numbers.{be, Bytes, turned}
 
 -- a number as one that is not negative: 2^63 is added
 unfoldable pub lifted : ℤ → ℕ

@@ -1,5 +1,5 @@
 pub mod Meant
-pub mod Bytes
+pub mod Kind
 pub mod Key
 pub mod Row
 pub mod Back

@@ -1,5 +1,5 @@
 -- What a value of the code means.
-use Rattle.std.specs.Prelude.{ℤ, Some, None, Option}
+use Rattle.std.specs.Prelude.{◌≡◌, ℤ, Some, None, Option}
 use Rattle.meaning.specs.Value as M
 use Rattle.values.specs.declared.Value.{Value}
 use Rattle.values.specs.declared.Value.TheVariants.{Null, Number, Text}
@@ -22,3 +22,7 @@ truth_of Unknown = M.Unknown
 abbrev pub number_or : Option ℤ → M.Value
 number_or (Some n) = M.Num n
 number_or None = M.Null
+
+-- a tested operation gives what 64 bits hold of f, else nothing
+abbrev pub Computes : (ℤ → ℤ → Option ℤ → Type 0) → (ℤ → ℤ → ℤ) → Type 0
+Computes post f = (a b : ℤ) (o : Option ℤ) → post a b o → number_or o ≡ M.fits (f a b)

@@ -1,14 +1,15 @@
 -- Rows as bytes: each value by a first byte that says its kind, exactly as many bytes as it weighs; and what bytes are the row of.
-use Rattle.std.specs.Prelude.{◌≡◌, ℕ, zero, suc, ◌+◌, ◌-◌, ◌≤◌, Bool, cond, ◌&&◌, List, [], ◌∷◌, ◌++◌, length, take, drop, ℤ, pos, negsuc, Some, None, Option, ◌==◌, nat_le, nat_lt}
+use Rattle.std.specs.Prelude.{◌≡◌, ℕ, zero, suc, ◌+◌, ◌-◌, ◌≤◌, Bool, cond, ◌&&◌, List, [], ◌∷◌, ◌++◌, length, take, drop, ℤ, pos, negsuc, Some, None, Option, MatchOption, ◌==◌, nat_le, nat_lt}
 use Rattle.std.specs.Option.{option_map}
 use Rattle.std.specs.Int.Digits.{number_from_digits}
 use Rattle.std.specs.List.{AllByRecursion}
 use Rattle.meaning.specs.Value.{Value, Null, Num, Text}
 use Rattle.meaning.specs.Meaning.{nth}
 use Rattle.meaning.specs.Doing.{weight, weight_all}
-use Rattle.values.specs.Bytes.{be, Bytes}
+use Rattle.octets.specs.Numbers.{be, Bytes}
 use Rattle.values.specs.Key.{lifted, Storable}
 use Rattle.values.specs.Meant.{meaning_of}
+use Rattle.values.specs.declared.Value as V
 use Rattle.values.specs.declared.row.First.{First}
 
 -- null: 0. A number: 1, and 8 bytes of it with 2^63 added. A text: 2, its length in 2 bytes, and its bytes
@@ -54,6 +55,10 @@ front (kind ∷ bs) = front_of kind bs
 -- the same of the code
 abbrev pub seen : First → Split
 seen f = record { value = meaning_of f.value; rest = f.rest.now }
+
+-- a value of the code is taken off the front, or nothing where none stands there
+abbrev pub Takes : List ℕ → Option V.Value → List ℕ → Type 0
+Takes bs v rest = MatchOption v ((front bs ≡ None) × (rest ≡ bs)) (λ (w : V.Value). front bs ≡ Some (record { value = meaning_of w; rest = rest }))
 
 -- what is made of the first value, where one stands there
 abbrev pub chained : {A : Type 0} → Option Split → (Split → Option A) → Option A

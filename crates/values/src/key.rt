@@ -1,32 +1,23 @@
 // Keys as bytes: comparing the bytes of two keys is comparing their values, column by column, each rising or falling; and no key is a beginning of another, so that a row's number can follow.
 // A key is written one column at a time into lent memory.
-ghost use Rattle.std.specs.Prelude.{◌≡◌, ◌+◌, ◌-◌, ◌*◌, ◌≤◌, length, if◌then◌else◌, Some, None};
+ghost use Rattle.std.specs.Prelude.{◌≡◌, ◌+◌, ◌*◌, ◌≤◌, length, if◌then◌else◌, Some, None};
 ghost use Rattle.meaning.specs.Value.{less_bytes};
 ghost use Rattle.meaning.specs.Doing.{weight};
 ghost use Rattle.values.specs.Meant.{meaning_of};
-ghost use Rattle.values.specs.Bytes.{turned};
-ghost use Rattle.octets.specs.Parts.{part, put};
+ghost use Rattle.octets.specs.Numbers.{turned};
+ghost use Rattle.octets.specs.Parts.{put};
 ghost use Rattle.values.specs.Key.{lifted, escaped, rising_code, code_of, column_room, Storable, OrdersKeys, KeysOrdered, KeysFollowed, KeysApart, KeysShort};
 
 use crate::Value;
-use crate::digits::put_u64;
-
-// The first byte of a column: nulls come before numbers, numbers before texts.
-pub(crate) const NULL: u8 = 1;
-
-pub(crate) const NUMBER: u8 = 2;
-
-pub(crate) const TEXT: u8 = 3;
+use octets::put_u64;
 
 // Comparing keys is comparing values, whatever follows the keys; none is a beginning of another, and none is long.
-pub fn keys_stand() -> u8
+pub fn keys_stand()
     ensures ordered { KeysOrdered }
     ensures followed { KeysFollowed }
     ensures apart { KeysApart }
     ensures short { KeysShort }
-{
-    0
-}
+{}
 
 // The order of keys, each with what follows it: that of their bytes, which is that of their values.
 pub fn less(a: &[u8], b: &[u8]) -> bool
@@ -56,7 +47,7 @@ fn put_column(value: Value, falling: bool, out: &mut [u8], at: usize) -> usize
 {
     let end = put_rising(value, out, at);
     if falling {
-        turn(out, at, end);
+        turn(&mut out[at..end]);
     }
     end
 }
@@ -66,20 +57,14 @@ fn put_rising(value: Value, out: &mut [u8], at: usize) -> usize
     ensures place { result ≡ at + length (rising_code (meaning_of value.entry)) }
     ensures bytes { out.new ≡ put out.old at (rising_code (meaning_of value.entry)) }
 {
+    out[at] = value.kind().in_key();
     match value {
-        Value::Null => {
-            out[at] = NULL;
-            at + 1
-        }
+        Value::Null => at + 1,
         Value::Number(n) => {
-            out[at] = NUMBER;
             put_u64(out, at + 1, lift(n));
             at + 9
         }
-        Value::Text(text) => {
-            out[at] = TEXT;
-            put_escaped(text, out, at + 1)
-        }
+        Value::Text(text) => put_escaped(text, out, at + 1),
     }
 }
 
@@ -109,12 +94,11 @@ fn put_escaped(text: &[u8], out: &mut [u8], at: usize) -> usize
     end + 2
 }
 
-// Each byte from `from` to `to` is taken from 255.
-fn turn(out: &mut [u8], from: usize, to: usize)
-    requires { (from ≤ to) × (to ≤ length out.old) }
-    ensures { out.new ≡ put out.old from (turned (part out.old from (to - from))) }
+// Each byte is taken from 255.
+fn turn(part: &mut [u8])
+    ensures { part.new ≡ turned part.old }
 {
-    for k in from..to {
-        out[k] = 255 - out[k];
+    for byte in part {
+        *byte = 255 - *byte;
     }
 }

@@ -1,23 +1,19 @@
 // What is done with the pages of a joiner.
-ghost use Rattle.std.specs.Prelude.{◌≡◌, ◌+◌, ◌-◌, ◌<◌, ◌≤◌, [], ◌∷◌, length, IfOk};
-ghost use Rattle.node.specs.Node.{count_in, entries_from, entries_in, Formed};
-ghost use Rattle.node.specs.Joiner.{pages_of, Sound, OpenedBy, PushedBy, spare, ReservedBy, JoinedBy, PartPushed};
+ghost use Rattle.std.specs.Prelude.{◌≡◌, ◌+◌, ◌<◌, ◌≤◌, [], ◌∷◌, length, IfOk};
+ghost use Rattle.node.specs.Node.{count_in, entries_in, lies, Whole};
+ghost use Rattle.node.specs.Joiner.{pages_of, OpenedBy, PushedBy, spare, ReservedBy, JoinedBy, AllPushed};
 
 use crate::joiner::{CAPACITY, Joiner, MOST};
-use crate::{clear, count, key, push, used, value};
+use crate::{Entry, Full, Node, clear, push};
 use std::alloc::{AllocError, Global};
 
 impl Joiner {
     // All its memory is taken here.
     pub fn new(heap: Global) -> Result<Joiner, AllocError>
-        ensures { IfOk result (λ j. Sound j × (pages_of j ≡ [])) }
+        ensures { IfOk result (λ j. pages_of j ≡ []) }
     {
-        let mut pages = Vec::new(heap);
-        for _ in 0..MOST {
-            pages.push([0; 4096])?;
-        }
         Ok(Joiner {
-            pages,
+            pages: vec![in heap; [0; 4096]; MOST]?,
             len: 0,
             level: 0,
         })
@@ -25,87 +21,85 @@ impl Joiner {
 
     // No pages, of another level.
     pub fn begin(&mut self, level: u8)
-        ensures { Sound self.old → Sound self.new × (pages_of self.new ≡ []) }
+        ensures { pages_of self.new ≡ [] }
     {
         self.level = level;
         self.len = 0;
     }
 
-    // One page more, without entries; false where there is no place for one.
-    fn open(&mut self) -> bool
-        ensures { Sound self.old → OpenedBy self.old result self.new }
+    // One page more, without entries, if there is a place for one.
+    fn open(&mut self) -> Result<(), Full>
+        ensures { OpenedBy self.old result self.new }
     {
         let at = self.len;
         if at >= self.pages.len() {
-            return false;
+            return Err(Full);
         }
         clear(&mut self.pages[at], self.level);
         self.len = at + 1;
-        true
+        Ok(())
     }
 
-    // An entry behind the last page's; false where that has no room for it, or there is no page.
-    fn push_on(&mut self, key: &[u8], value: &[u8]) -> bool
-        ensures { Sound self.old → PushedBy self.old (record { key = key.entry.now; value = value.now }) result self.new }
+    // An entry behind the last page's, if there is a page and it has room.
+    fn push_on(&mut self, entry: Entry) -> Result<(), Full>
+        ensures { PushedBy self.old (lies entry.entry) result self.new }
     {
         let len = self.len;
         if len == 0 {
-            return false;
+            return Err(Full);
         }
-        push(&mut self.pages[len - 1], key, value)
+        push(&mut self.pages[len - 1], entry)
     }
 
     // How many bytes the last page has room for; none where there is no page.
     fn room(&self) -> usize
-        ensures { Sound self.now → result ≡ spare (pages_of self.now) }
+        ensures { result ≡ spare (pages_of self.now) }
     {
         let len = self.len;
         if len == 0 {
             return 0;
         }
-        CAPACITY.saturating_sub(used(&self.pages[len - 1]))
+        let last = Node {
+            page: &self.pages[len - 1],
+        };
+        CAPACITY.saturating_sub(last.used())
     }
 
-    // Sees to it that the last page has room for so many bytes; false where there is no place for one more.
-    fn reserve(&mut self, weight: usize) -> bool
-        ensures { Sound self.old → ReservedBy self.old weight result self.new }
+    // Sees to it that the last page has room for so many bytes, if there is a place for one more.
+    fn reserve(&mut self, weight: usize) -> Result<(), Full>
+        ensures { ReservedBy self.old weight result self.new }
     {
         if self.room() < weight {
             return self.open();
         }
-        true
+        Ok(())
     }
 
     // One entry as a unit of its own.
-    pub fn add(&mut self, key: &[u8], value: &[u8]) -> bool
-        ensures { Sound self.old → 4 + (length key.entry.now + length value.now) ≤ 4088 → JoinedBy self.old (record { key = key.entry.now; value = value.now } ∷ []) result self.new }
+    pub fn add(&mut self, entry: Entry) -> Result<(), Full>
+        ensures { 4 + (length entry.entry.key.now + length entry.entry.value.now) ≤ 4088 → JoinedBy self.old (lies entry.entry ∷ []) result self.new }
     {
-        let weight = key.len().saturating_add(value.len()).saturating_add(4);
-        if !self.reserve(weight) {
-            return false;
-        }
-        self.push_on(key, value)
+        let len = entry.key.len().saturating_add(entry.value.len());
+        self.reserve(len.saturating_add(4))?;
+        self.push_on(entry)
     }
 
-    // Entries of a page, from one place to another, behind the last page's; false where that has no room for them.
-    fn push_part(&mut self, page: &[u8; 4096], from: usize, to: usize) -> bool
-        ensures { Sound self.old → Formed page.now (count_in page.now) → from ≤ to → to ≤ count_in page.now → PartPushed self.old (entries_from page.now from (to - from)) result self.new }
+    // All entries of a node behind the last page's, if that has room for them.
+    fn push_all(&mut self, node: Node) -> Result<(), Full>
+        ensures { Whole node.entry.page.now → AllPushed self.old (entries_in node.entry.page.now) result self.new }
     {
-        for i in from..to {
-            if !self.push_on(key(page, i), value(page, i)) {
-                return false;
-            }
+        // kept: numbers, by (d): a page's entries are found by number, and lie in no slice
+        for i in 0..node.count() {
+            self.push_on(node.entry(i))?;
         }
-        true
+        Ok(())
     }
 
-    // All entries of a page as one unit.
-    pub fn add_page(&mut self, page: &[u8; 4096]) -> bool
-        ensures { Sound self.old → Formed page.now (count_in page.now) → 0 < count_in page.now → JoinedBy self.old (entries_in page.now) result self.new }
+    // All entries of a node as one unit.
+    pub fn add_page(&mut self, node: Node) -> Result<(), Full>
+        ensures { Whole node.entry.page.now → 0 < count_in node.entry.page.now → JoinedBy self.old (entries_in node.entry.page.now) result self.new }
     {
-        if !self.reserve(used(page)) {
-            return false;
-        }
-        self.push_part(page, 0, count(page))
+        self.reserve(node.used())?;
+        self.push_all(node)
     }
 }

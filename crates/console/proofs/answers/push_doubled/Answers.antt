@@ -1,5 +1,5 @@
 use Rattle.std.proofs.Common.{rules}
-use Rattle.console.proofs.Doubling.{doubled-none, doubled-more, doubled-all}
+use Rattle.console.proofs.Doubling.{doubled-none, doubled-more}
 use Rattle.console.proofs.answers.push_doubled.Goals as goal
 
 pub loop-byte-init : goal.loop-byte-init
@@ -7,6 +7,3 @@ loop-byte-init c = doubled-none _
 
 pub loop-byte-preserved : goal.loop-byte-preserved
 loop-byte-preserved c = search (rules, doubled-more)
-
-pub returns : goal.returns
-returns c = search (rules, doubled-all)

@@ -3,7 +3,7 @@ use Rattle.meaning.specs.Value.{Text, joined}
 use Rattle.std.proofs.lemmas.Bool.{cond-true, lt-ltb}
 use Rattle.values.specs.Meant.{meaning_of}
 use Rattle.values.proofs.Numbers.{joined-short}
-use Rattle.values.proofs.Bytes.{two-copies}
+use Rattle.octets.proofs.Parts.{two-copies}
 use Rattle.values.proofs.Value.concat.Goals as goal
 
 pub returns-in_default : goal.returns-in_default

@@ -1,7 +1,7 @@
 use Rattle.std.proofs.Common.{◌∙◌}
 use Rattle.meaning.specs.Value.{less_bytes}
 use Rattle.values.proofs.Keys.{keys-followed}
-use Rattle.values.proofs.Numbers.{lex-is}
+use Rattle.octets.proofs.Order.{lex-is}
 use Rattle.values.proofs.key.less.Goals as goal
 
 pub returns : goal.returns

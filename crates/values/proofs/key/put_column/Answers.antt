@@ -7,11 +7,11 @@ use Rattle.values.proofs.Keys.{length-rising, length-code}
 use Rattle.values.proofs.Writing.{turned-put}
 use Rattle.values.proofs.key.put_column.Goals as goal
 
-pub turn-requires : goal.turn-requires
-turn-requires c =
+pub slice_bounds-turn-end : goal.slice_bounds-turn-end
+slice_bounds-turn-end c =
     let h = length-rising (meaning_of c.args.value) in
     let e = ap length c.put_rising-end.ensures.bytes ∙ length-put c.args.out.now (rising_code (meaning_of c.args.value)) c.args.at (omega arith) in
-    (omega arith, omega arith)
+    omega arith
 
 pub returns-then-falling : goal.returns-then-falling
 returns-then-falling c =
@@ -19,5 +19,5 @@ returns-then-falling c =
     let h = length-rising v in
     record {
       place = c.put_rising-end.ensures.place ∙ ap (λ n. c.args.at + n) (sym (length-code c.args.falling v));
-      bytes = c.turn.ensures ∙ turned-put c.args.out.now c.put_rising-end.new.out (rising_code v) c.args.at c.put_rising-end.result c.put_rising-end.ensures.bytes c.put_rising-end.ensures.place (omega arith) ∙ ap (λ d. put c.args.out.now c.args.at (code_of d v)) (sym c.if-falling.true);
+      bytes = turned-put c.args.out.now c.put_rising-end.new.out (rising_code v) c.turn.new.part c.args.at c.put_rising-end.result c.put_rising-end.ensures.bytes c.put_rising-end.ensures.place (omega arith) c.turn.ensures ∙ ap (λ d. put c.args.out.now c.args.at (code_of d v)) (sym c.if-falling.true);
     }

@@ -1,7 +1,7 @@
 use Rattle.std.proofs.Common.{◌≡◌, ◌+◌, [], length, get_or, drop, set, sym, refl, ap, ◌∙◌, arith, length-set}
 use Rattle.octets.specs.Parts.{put}
 use Rattle.values.specs.Key.{escaped}
-use Rattle.values.proofs.Bytes.{put-nil, put-cons, put_two}
+use Rattle.octets.proofs.Parts.{put-nil, put-cons, put_two}
 use Rattle.values.proofs.Writing.{left-zero, left_other, left-none}
 use Rattle.values.proofs.key.put_escaped.Goals.{then-byte-eq0, else-byte-eq0}
 use Rattle.values.proofs.key.put_escaped.Goals as goal

@@ -1,16 +1,10 @@
-use Rattle.std.proofs.Common.{◌≡◌, ◌-◌, sym, ap, ◌∙◌, arith}
-use Rattle.values.specs.Bytes.{turned}
-use Rattle.octets.specs.Parts.{part, put}
-use Rattle.values.proofs.Bytes.{put-nil}
-use Rattle.values.proofs.Writing.{turn_more}
+use Rattle.std.proofs.Common.{ℕ, ◌-◌, get_or, arith}
+use Rattle.std.proofs.lemmas.List.{get_or_default}
+use Rattle.std.proofs.lemmas.List.Edits.{map_over_more}
 use Rattle.values.proofs.key.turn.Goals as goal
 
-pub loop-k-preserved : goal.loop-k-preserved
-loop-k-preserved c = turn_more c.loop-k.out c.loop-k.k c.args.to (omega arith) (omega arith) ∙ c.loop-k.invariant
-
-pub returns : goal.returns
-returns c =
-    let none : c.args.to - c.loop-k.k ≡ 0 = omega arith in
-    sym (put-nil c.loop-k.out c.loop-k.k)
-    ∙ ap (λ n. put c.loop-k.out c.loop-k.k (turned (part c.loop-k.out c.loop-k.k n))) (sym none)
-    ∙ c.loop-k.invariant
+pub loop-byte-preserved : goal.loop-byte-preserved
+loop-byte-preserved c =
+    let items = c.loop-byte.byte-items in
+    let i = c.loop-byte.byte-index in
+    map_over_more (λ (b : ℕ). 255 - b) c.args.part.now items i (get_or items i 0) (omega arith) c.loop-byte.invariant (get_or_default items i 0 (get_or items i 0) (omega arith))

@@ -1,8 +1,7 @@
-use Rattle.std.proofs.Common.{◌≡◌, ◌-◌}
-use Rattle.values.specs.Bytes.{turned}
-use Rattle.octets.specs.Parts.{part, put}
+use Rattle.std.proofs.Common.{◌≡◌, ◌++◌, take, drop}
+use Rattle.octets.specs.Numbers.{turned}
 use Rattle.values.proofs.key.turn.Given as goal
 
--- what is left to be turned makes the same bytes
-abbrev pub invariant-loop-k : goal.invariant-loop-k
-invariant-loop-k l = put l.out l.k (turned (part l.out l.k (l.to - l.k))) ≡ put l.initial.out l.from (turned (part l.initial.out l.from (l.to - l.from)))
+-- what was passed is turned, the rest is as it was
+abbrev pub invariant-loop-byte : goal.invariant-loop-byte
+invariant-loop-byte l = l.byte-items ≡ turned (take l.byte-index l.fn.part) ++ drop l.byte-index l.fn.part

@@ -5,10 +5,10 @@ use Rattle.values.specs.Row.{row_of}
 use Rattle.values.proofs.row.columns.Given as goal
 
 -- what is left, with the columns so far, counts the same; each column took a byte at least
-abbrev pub invariant-loop-rest : goal.invariant-loop-rest
-invariant-loop-rest l =
-    (option_map (λ (vs : List Value). l.count + length vs) (row_of l.rest) ≡ option_map (λ (vs : List Value). length vs) (row_of l.bytes)) ×
-    (l.count + length l.rest ≤ length l.bytes)
+abbrev pub invariant-loop-count : goal.invariant-loop-count
+invariant-loop-count l =
+    (option_map (λ (vs : List Value). l.count + length vs) (row_of l.values.rest.now) ≡ option_map (λ (vs : List Value). length vs) (row_of l.bytes)) ×
+    (l.count + length l.values.rest.now ≤ length l.bytes)
 
-abbrev pub decreases-loop-rest : goal.decreases-loop-rest
-decreases-loop-rest l = length l.rest
+abbrev pub decreases-loop-count : goal.decreases-loop-count
+decreases-loop-count l = length l.values.rest.now

@@ -1,7 +1,7 @@
-use Rattle.std.proofs.Common.{refl, arith}
+use Rattle.std.proofs.Common.{refl}
 use Rattle.node.specs.Joiner.{pages_to}
 use Rattle.node.proofs.joiner.Joiner.begin.Goals as goal
 
 pub returns : goal.returns
 unfolding pages_to
-returns c = λ s. (λ i h. absurd (omega arith), refl)
+returns c = refl
