@@ -1,5 +1,5 @@
 -- What holds of the pager, its device and the model's state, phase by phase.
-use Rattle.std.proofs.Common.{◌≡◌, ℕ, ◌+◌, ◌*◌, ◌/◌, ◌%◌, ◌<◌, ◌≤◌, Bool, true, false, cond, not, ◌&&◌, eqb, leb, List, [], ◌∷◌, length, get_or, take, vec_items, sym, refl, ap, ◌∙◌, arith, eq-eqb, eqb-true}
+use Rattle.std.proofs.Common.{◌≡◌, ℕ, ◌+◌, ◌*◌, ◌/◌, ◌%◌, ◌<◌, ◌≤◌, Bool, true, false, cond, not, ◌&&◌, eqb, leb, List, [], ◌∷◌, length, get_or, take, Vec, vec_items, sym, refl, ap, ◌∙◌, arith, eq-eqb, eqb-true}
 use borrow.Author.Tests.{eqb-false}
 use Rattle.std.proofs.lemmas.Bool.{le-leb, leb-true}
 use Rattle.device.specs.Device.{Device, shown, AfterCut, With}
@@ -24,14 +24,21 @@ Family = Bool → (ℕ → ℕ) → (ℕ → ℕ) → (ℕ → ℕ) → (ℕ →
 abbrev pub Of : Family → Pager → Type 0
 Of F m = F m.second (bs m) (ws m) (os m) (ys m) (hs m)
 
+-- arrays that are the same are the same functions
+pub as-map : {Z : Type 0} {v w : Vec ℕ Z} → v ≡ w → ◌≡◌ {A = ℕ → ℕ} (λ p. get_or (vec_items v) p 0) (λ p. get_or (vec_items w) p 0)
+as-map e = ap (λ v p. get_or (vec_items v) p 0) e
+
+pub as-flags : {Z : Type 0} {v w : Vec Bool Z} → v ≡ w → ◌≡◌ {A = ℕ → Bool} (λ p. get_or (vec_items v) p false) (λ p. get_or (vec_items w) p false)
+as-flags e = ap (λ v p. get_or (vec_items v) p false) e
+
 -- what holds of the arrays holds where they are the same
-pub view-moved : (F : Family) (a a' : Bool) (b b' w w' o o' : ℕ → ℕ) (y y' h h' : ℕ → Bool) → a' ≡ a → b' ≡ b → w' ≡ w → o' ≡ o → y' ≡ y → h' ≡ h → F a b w o y h → F a' b' w' o' y' h'
-view-moved F a a' b b' w w' o o' y y' h h' e1 e2 e3 e4 e5 e6 x = rw (e1, e2, e3, e4, e5, e6) x
+pub view-moved : (F : Family) {a a' : Bool} {b b' w w' o o' : ℕ → ℕ} {y y' h h' : ℕ → Bool} → a' ≡ a → b' ≡ b → w' ≡ w → o' ≡ o → y' ≡ y → h' ≡ h → F a b w o y h → F a' b' w' o' y' h'
+view-moved F e1 e2 e3 e4 e5 e6 x = rw (e1, e2, e3, e4, e5, e6) x
 
 pub same_view : (F : Family) (m n : Pager) → Same m n → Of F m → Of F n
 same_view F m n e x =
-    view-moved F m.second n.second (bs m) (bs n) (ws m) (ws n) (os m) (os n) (ys m) (ys n) (hs m) (hs n) e.second (ap (λ v p. get_or (vec_items v) p 0) e.base)
-    (ap (λ v p. get_or (vec_items v) p 0) e.present) (ap (λ v p. get_or (vec_items v) p 0) e.owner) (ap (λ v p. get_or (vec_items v) p false) e.dirty) (ap (λ v p. get_or (vec_items v) p false) e.behind) x
+    view-moved F e.second (as-map e.base)
+    (as-map e.present) (as-map e.owner) (as-flags e.dirty) (as-flags e.behind) x
 
 -- whether a page has a slot of its own
 abbrev pub owns : ℕ → ℕ → Bool

@@ -6,12 +6,12 @@ use Rattle.device.proofs.Sectors.{shown-calm}
 use Rattle.device.proofs.Standing.{Then}
 use Rattle.shadow.specs.Layout.{other, area_at, area_in, entry_in}
 use Rattle.shadow.proofs.Shadow.{Body, body-as, above_as, above_same}
-use Rattle.pager.specs.Steps.{Asking, bs, ws, os, ys, hs, FetchAt, LoadAt, CheckAt, CompareAt, PhaseAt}
+use Rattle.pager.specs.Steps.{Asking, bs, os, ys, hs, FetchAt, LoadAt, CheckAt, CompareAt, PhaseAt}
 use Rattle.pager.specs.Model.{Held}
 use Rattle.pager.specs.declared.state.Phase.{Phase}
 use Rattle.pager.specs.declared.state.Phase.TheVariants.{Opening, Header, Fetch, Loading, Check, Comparing, Idle, Asked, Short, Getting, Putting, Filling, Settled, Marked, Sealed}
 use Rattle.pager.specs.declared.state.Pager.{Pager}
-use Rattle.pager.proofs.Invariant.{Of, view-moved, same_view, Fixed, lived-same, Stand, Off, Read-to, Compared, RisingAt, Rising, Ready}
+use Rattle.pager.proofs.Invariant.{Of, as-map, view-moved, same_view, Fixed, lived-same, Stand, Off, Read-to, Compared, RisingAt, Rising, Ready}
 
 module _ (N M S : ℕ) (few : N ≤ 64 * M) where
   module _ (s : Held) (m n : Pager) (g : List ℕ) (d : Device) (fixed : Fixed N M S few n) (off : Off N M S few s d) where
@@ -40,7 +40,7 @@ module _ (N M S : ℕ) (few : N ≤ 64 * M) where
         let t = l.owner p j (mine.fits p j) in
         sym (mine.apart p (os n (bs m p)) j t.0 (sym t.1) one) in
         rw l.ask (λ j. rising-at (Check 0) j l.phase (
-        view-moved (Compared N M S few 0 s d) off.area n.second (bs m) (bs n) (bs m) (ws n) (os n) (os n) (ys n) (ys n) (hs n) (hs n) (l.second ∙ h.second) (ap (λ v p. get_or (vec_items v) p 0) l.base) (ap (λ v p. get_or v p 0) l.present) refl refl refl (record {
+        view-moved (Compared N M S few 0 s d) (l.second ∙ h.second) (as-map l.base) (ap (λ v p. get_or v p 0) l.present) refl refl refl (record {
           upto = omega arith;
           low = record { header = off.low.header; header_calm = off.low.header_calm; body = mine };
           above = λ y. above_as N M S few (bs m) (bs m) (os n) y s.base s.now d (λ p _. sym (off.settled p)) (above_same N M S few off.area (bs m) (bs m) (os n) y s.base d (λ p j. refl) back mine);
@@ -86,7 +86,7 @@ module _ (N M S : ℕ) (few : N ≤ 64 * M) where
     unfolding Climbs
     at-comparing r i h b e x =
         rw x.ask (λ j. rising-at (Check (i + 1)) j x.phase (
-        view-moved (Compared N M S few (i + 1) s d) m.second n.second (bs m) (bs n) (ws m) (ws n) (os m) (os n) (ys n) (ys n) (hs n) (hs n) x.second (ap (λ v p. get_or (vec_items v) p 0) x.base) (ap (λ v p. get_or (vec_items v) p 0) x.present) (ap (λ v p. get_or (vec_items v) p 0) x.owner) refl refl (record {
+        view-moved (Compared N M S few (i + 1) s d) x.second (as-map x.base) (as-map x.present) (as-map x.owner) refl refl (record {
           upto = omega arith;
           low = h.low;
           above = h.above;

@@ -314,9 +314,9 @@ steadily size z =
       );
     }
 
-pub pager-whole : PagerWhole
+pub pager_whole : PagerWhole
 unfolding steadily
-pager-whole = record {
+pager_whole = record {
   keeps = λ size z. keeps (pager_judge size) pager_engine size (standing size);
   within = λ size z. within_by pager_engine size (steadily size z);
   ends = λ size z. ends_by pager_engine size (steadily size z) (λ m. soon (pages size) (map_sectors size) (slots size) (few-of size) m.phase)

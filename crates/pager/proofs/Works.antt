@@ -49,6 +49,8 @@ use Rattle.pager.specs.declared.state.Pager.{Pager}
 use Rattle.octets.proofs.Parts.{take_put}
 use Rattle.pager.proofs.Invariant.{
   Of,
+  as-map,
+  as-flags,
   view-moved,
   same_view,
   Fixed,
@@ -176,7 +178,7 @@ module _ (N M S : ℕ) (few : N ≤ 64 * M) where
         let lo : slot < length (vec_items m.owner) = omega (arith, m.olen, m.owner.ok.0, old.slots, x.fits) in
         let owned : os n slot ≡ p = ap (λ (v : List ℕ). get_or v slot 0) x.owner ∙ get_or-set_same (vec_items m.owner) slot p 0 lo in
         let others : (q : ℕ) → (q ≡ slot → ⊥) → os n q ≡ os m q = λ q ne. ap (λ (v : List ℕ). get_or v q 0) x.owner ∙ get_or-set_other (vec_items m.owner) slot q p 0 ne in
-        view-moved (Slotted p slot s d) m.second n.second (bs m) (bs n) (ws n) (ws n) (os n) (os n) (ys n) (ys n) (hs m) (hs n) t.second (ap (λ v p. get_or (vec_items v) p 0) t.base) refl refl refl (ap (λ v p. get_or (vec_items v) p false) t.behind)
+        view-moved (Slotted p slot s d) t.second (as-map t.base) refl refl refl (as-flags t.behind)
         (slot-in p slot m.second (bs m) (ws m) (os m) (ws n) (os n) (ys m) (ys n) (hs m) h x.one x.fits
         (free-base N M S few (bs m) (ws m) (os m) (ys m) s.now d slot x.one h.above x.free)
         (λ q l _. free-now N M S few (bs m) (ws m) (os m) (ys m) s.now d slot x.one h.above x.free q l)
@@ -192,7 +194,7 @@ module _ (N M S : ℕ) (few : N ≤ 64 * M) where
         let t = x.entered in
         answers (Put p) r Done (cleared p s) e x.ask (clears p c.bytes (held n) s i told.0 (ap blank (sym told.1) ∙ x.blank)) (record {
           fixed = fixed;
-          stand = view-moved (Stand N M S few (cleared p s) d) m.second n.second (bs m) (bs n) (ws n) (ws n) (os m) (os n) (ys n) (ys n) (hs m) (hs n) t.second (ap (λ v p. get_or (vec_items v) p 0) t.base) refl (ap (λ v p. get_or (vec_items v) p 0) x.owner) refl (ap (λ v p. get_or (vec_items v) p false) t.behind) (record {
+          stand = view-moved (Stand N M S few (cleared p s) d) t.second (as-map t.base) refl (as-map x.owner) refl (as-flags t.behind) (record {
             low = h.low;
             above = above-clear N M S few (bs m) (ws m) (os m) (ws n) (ys m) (ys n) s.now d p (entered_here p 0 i t) (entered-rest p 0 i t) (entered-flag p 0 i t) h.above;
             behind = h.behind;
@@ -257,7 +259,7 @@ module _ (N M S : ℕ) (few : N ≤ 64 * M) where
         let eq : (p : ℕ) → p < N → ws n p ≡ bs m p = λ p l. x.present p (omega arith) ∙ back p l (ys m (p / 64)) refl in
         answers Undo r Done (undone s) e x.ask (undoes c.bytes (held n) s) (record {
           fixed = fixed;
-          stand = view-moved (Stand N M S few (undone s) d) m.second n.second (bs m) (bs n) (ws n) (ws n) (os m) (os n) (ys n) (ys n) (hs m) (hs n) x.second (ap (λ v p. get_or (vec_items v) p 0) x.base) refl (ap (λ v p. get_or (vec_items v) p 0) x.owner) refl (ap (λ v p. get_or (vec_items v) p false) x.behind) (record {
+          stand = view-moved (Stand N M S few (undone s) d) x.second (as-map x.base) refl (as-map x.owner) refl (as-flags x.behind) (record {
             low = h.low;
             above = above_same N M S few m.second (bs m) (ws n) (os m) (ys n) s.base d eq h.above.back h.low.body;
             behind = h.behind;
@@ -437,14 +439,14 @@ module _ (N M S : ℕ) (few : N ≤ 64 * M) where
     at-sealed : (r : Asking) → Of (InSealed N M S few c s d) m → SealAt M m r n → Works r
     at-sealed r h x =
         let eq : (p : ℕ) → p < N → ws m p ≡ bs n p = λ p l. sym (x.base p (omega arith) ∙ on-by p l (ys m (p / 64)) refl) in
-        let present : ws n ≡ ws m = ap (λ v p. get_or (vec_items v) p 0) x.present in
-        let owner : os n ≡ os m = ap (λ v p. get_or (vec_items v) p 0) x.owner in
+        let present : ws n ≡ ws m = as-map x.present in
+        let owner : os n ≡ os m = as-map x.owner in
         let behind : hs n ≡ ys m = ap (λ v p. get_or v p false) x.behind in
         let body : Body N M S few (other m.second) (bs n) s.now d = body-as N M S few (other m.second) (ws m) (bs n) s.now d eq h.low.body in
         let live : (p : ℕ) → p < N → s.has p ≡ leb 1 (bs n p) = λ p l. h.lived.has p l ∙ ap (leb 1) (eq p l) in
         answers Commit r Done (committed s) (sym h.commit) x.ask (commits c.bytes (held n) s) (record {
           fixed = fixed;
-          stand = view-moved (Stand N M S few (committed s) d) (other m.second) n.second (bs n) (bs n) (ws m) (ws n) (os m) (os n) (ys n) (ys n) (ys m) (hs n) x.second refl present owner refl behind (record {
+          stand = view-moved (Stand N M S few (committed s) d) x.second refl present owner refl behind (record {
             low = record { header = h.low.header; header_calm = h.low.header_calm; body = body };
             above = above_same N M S few (other m.second) (bs n) (ws m) (os m) (ys n) s.now d eq (λ p l o. ap (os m) (sym (eq p l)) ∙ h.above.back_now p l (let z = eq p l in omega arith)) body;
             behind = λ p l k e. behind-after N M S few m.second (bs m) (ws m) (os m) (ys m) s.base s.now d h.body h.above p l k e ∙ eq p l;

@@ -66,11 +66,13 @@ pub struct Pager {
     // whether the second area is the active one
     second: bool,
     // the slot of each page as committed and at present; 0 for a blank page
+    // kept: two arrays, since a commit copies parts of one over the other and an undo the other way, by one function
     base: Vec<u64>,
     present: Vec<u64>,
     // the page that each slot was last given to
     owner: Vec<u64>,
     // map sectors that were changed since the last commit; that are not the same in the other area
+    // kept: two arrays, since a commit makes the second a copy of the first and clears that, each by one call
     dirty: Vec<bool>,
     behind: Vec<bool>,
     // where to look for a free slot first

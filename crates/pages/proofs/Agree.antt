@@ -1,31 +1,21 @@
 -- The pager's state, the frames and the pages: what they have to do with each other, and what a change of a frame does to that. No device is in here.
 use Rattle.std.proofs.Common.{◌≡◌, ℕ, zero, suc, ◌+◌, ◌<◌, ◌≤◌, Bool, true, false, cond, not, ◌&&◌, eqb, List, [], ◌∷◌, length, sym, refl, ap, ◌∙◌, subst, arith, eq-eqb, ne_eqb, eqb-true}
 use borrow.Author.Tests.{eqb-false}
+use Rattle.std.proofs.lemmas.Bool.{and_parts, not-true, true≢false}
 use Rattle.device.specs.Device.{zeros}
 use Rattle.octets.specs.Parts.{blank}
 use Rattle.shadow.specs.Layout.{blank_page, updated, count}
-use Rattle.shadow.proofs.Count.{count-lt, count-le, and-true}
+use Rattle.shadow.proofs.Count.{count-lt, count-le}
 use Rattle.pager.specs.Model.{Held, undone, committed, changed, cleared, Crowded}
 use Rattle.pages.specs.Layer.{frame_of}
 use Rattle.pages.specs.Model.{Pages, put_page, keep, drop}
-
-never : true ≡ false → ⊥
-never e = let u : ◌≡◌ {A = ℕ} 0 1 = cc in omega arith
-
-pub not-true : (b : Bool) → not b ≡ true → b ≡ false
-not-true true e = absurd (never (sym e))
-not-true false e = refl
-
-pub not-false : (b : Bool) → not b ≡ false → b ≡ true
-not-false true e = refl
-not-false false e = absurd (never e)
 
 -- a blank page is all zeros
 pub blank-is : (l : List ℕ) → blank l ≡ true → l ≡ zeros (length l)
 unfolding zeros
 blank-is [] e = refl
 blank-is (x ∷ l) e =
-    let (a, b) = and-true (eqb x 0) (blank l) e in
+    let (a, b) = and_parts (eqb x 0) (blank l) e in
     ap (λ t. t ∷ l) (eqb-true x 0 a) ∙ ap (λ t. 0 ∷ t) (blank-is l b)
 
 pub length-zeros : (n : ℕ) → length (zeros n) ≡ n
@@ -161,7 +151,7 @@ module _ (N : ℕ) where
     leave-inside f q e false k = h.inside f q (sym (tags f (eqb-false f (frame_of p) k)) ∙ e)
 
     leave-tagged : (f : ℕ) → z' f ≡ true → (b : Bool) → eqb f (frame_of p) ≡ b → 1 ≤ g' f
-    leave-tagged f e true k = absurd (never (sym e ∙ ap z' (eqb-true f (frame_of p) k) ∙ flag))
+    leave-tagged f e true k = absurd (true≢false (sym e ∙ ap z' (eqb-true f (frame_of p) k) ∙ flag))
     leave-tagged f e false k =
         let n = eqb-false f (frame_of p) k in
         let u = h.tagged f (sym (flags f n) ∙ e) in
@@ -218,7 +208,7 @@ module _ (N : ℕ) where
     given_by p e false = e
 
     not_f : (k : ℕ) → z' k ≡ true → k ≡ f → ⊥
-    not_f k e y = never (sym e ∙ ap z' y ∙ flag)
+    not_f k e y = true≢false (sym e ∙ ap z' y ∙ flag)
 
     pub cache-wrote : Cache E g z' r (changed q (r f) s) t
     cache-wrote = record {
@@ -231,7 +221,7 @@ module _ (N : ℕ) where
 
   -- a page that has a slot of its own is not blank
   pub own-full : (s : Held) (t : Pages) (q : ℕ) → q < N → Core s t → s.given q ≡ true → blank (t.now q) ≡ false
-  own-full s t q l h e = not-true (blank (t.now q)) (and-true (t.fresh q) (not (blank (t.now q))) (sym (h.given q l) ∙ e)).1
+  own-full s t q l h e = not-true (blank (t.now q)) (and_parts (t.fresh q) (not (blank (t.now q))) (sym (h.given q l) ∙ e)).1
 
   pub core-wrote : (s : Held) (t : Pages) (q : ℕ) (v : List ℕ) → q < N → Core s t → s.given q ≡ true → Core (changed q v s) t
   core-wrote s t q v l h e = record {
@@ -344,14 +334,14 @@ module _ (N : ℕ) where
   pub cache-empty : (g : ℕ → ℕ) (z : ℕ → Bool) (r : ℕ → List ℕ) (s : Held) (t : Pages) → ((f : ℕ) → g f ≡ 0) → ((f : ℕ) → z f ≡ false) → Down s t → Cache NoPage g z r s t
   cache-empty g z r s t none clean h = record {
     inside = λ f q e. absurd (let u = none f in omega arith);
-    tagged = λ f e. absurd (never (sym e ∙ clean f));
+    tagged = λ f e. absurd (true≢false (sym e ∙ clean f));
     holds = λ p l _ e. absurd (let u = none (frame_of p) in omega arith);
     own = λ p l _ e. absurd (let u = none (frame_of p) in omega arith);
     cold = λ p l _ _. h.same p l;
   }
 
   pub clean-same : (g : ℕ → ℕ) (z : ℕ → Bool) (r : ℕ → List ℕ) (s : Held) (t : Pages) → ((f : ℕ) → f < 128 → z f ≡ false) → Cache NoPage g z r s t → (p : ℕ) → p < N → s.now p ≡ t.now p
-  clean-same g z r s t clean h p l = h.cold p l (λ x. x) (λ e d. never (sym d ∙ clean (frame_of p) (omega arith)))
+  clean-same g z r s t clean h p l = h.cold p l (λ x. x) (λ e d. true≢false (sym d ∙ clean (frame_of p) (omega arith)))
 
   pub core-keep : (s : Held) (t : Pages) → Core s t → ((p : ℕ) → p < N → s.now p ≡ t.now p) → Core (committed s) (keep t)
   core-keep s t h e = record { base = e; live = h.has; has = h.has; given = λ p l. refl; long = h.long; long_base = h.long }
@@ -361,7 +351,7 @@ module _ (N : ℕ) where
     inside = h.inside;
     tagged = h.tagged;
     holds = h.holds;
-    own = λ p l n e d. absurd (never (sym d ∙ clean (frame_of p) (omega arith)));
+    own = λ p l n e d. absurd (true≢false (sym d ∙ clean (frame_of p) (omega arith)));
     cold = h.cold;
   }
 

@@ -1,5 +1,6 @@
 -- Between the pager and the pages: what the pager answers, and what holds at each place of the frames.
 use Rattle.std.proofs.Common.{◌≡◌, ℕ, ◌+◌, ◌-◌, ◌<◌, ◌≤◌, Bool, true, false, ◌⊎◌, Some, None, List, [], length, get_or, vec_items, sym, refl, ap, ◌∙◌, inl, inr, arith}
+use Rattle.std.proofs.lemmas.Bool.{true≢false}
 use Rattle.device.specs.Device.{With, and}
 use Rattle.device.specs.Layers.{Place, down, below, raised, lifting, rests, begun, midst}
 use Rattle.device.specs.declared.Never.{Never}
@@ -38,23 +39,20 @@ module _ (N S : ℕ) where
   steady _ _ _ _ (low.commits b y s) = inl refl
   steady _ _ _ _ (low.undoes b y s) = inr (refl, refl)
 
-  pub never-bool : true ≡ false → ⊥
-  never-bool e = let u : ◌≡◌ {A = ℕ} 0 1 = cc in omega arith
-
   pub put_of : (p : ℕ) (b : List ℕ) (s : Held) (r : With Reply) (u : Held) → p < N → length b ≡ 4096 → blank b ≡ false → s.given p ≡ true → low.Replies N S (and (call.Put p) b) s r u → u ≡ changed p b s
   put_of _ _ _ _ _ i n e g (low.puts p b y s l m f) = refl
-  put_of _ _ _ _ _ i n e g (low.clears p b y s l m f) = absurd (never-bool (sym f ∙ e))
+  put_of _ _ _ _ _ i n e g (low.clears p b y s l m f) = absurd (true≢false (sym f ∙ e))
   put_of _ _ _ _ _ i n e g (low.puts_none p b y s l) = absurd (omega arith)
   put_of _ _ _ _ _ i n e g (low.puts_short p b y s m) = absurd (m n)
-  put_of _ _ _ _ _ i n e g (low.full p b y s f x) = absurd (never-bool (sym g ∙ x.wants))
+  put_of _ _ _ _ _ i n e g (low.full p b y s f x) = absurd (true≢false (sym g ∙ x.wants))
 
   pub clear_of : (p : ℕ) (b : List ℕ) (s : Held) (r : With Reply) (u : Held) → length b ≡ 4096 → blank b ≡ true → low.Replies N S (and (call.Put p) b) s r u →
       ((r.it ≡ Outside) × (N ≤ p) × (u ≡ s)) ⊎ ((r.it ≡ Done) × (p < N) × (u ≡ cleared p s))
-  clear_of _ _ _ _ _ n e (low.puts p b y s l m f) = absurd (never-bool (sym e ∙ f))
+  clear_of _ _ _ _ _ n e (low.puts p b y s l m f) = absurd (true≢false (sym e ∙ f))
   clear_of _ _ _ _ _ n e (low.clears p b y s l m f) = inr (refl, l, refl)
   clear_of _ _ _ _ _ n e (low.puts_none p b y s l) = inl (refl, l, refl)
   clear_of _ _ _ _ _ n e (low.puts_short p b y s m) = absurd (m n)
-  clear_of _ _ _ _ _ n e (low.full p b y s f x) = absurd (never-bool (sym e ∙ f))
+  clear_of _ _ _ _ _ n e (low.full p b y s f x) = absurd (true≢false (sym e ∙ f))
 
   pub give-of : (p : ℕ) (b : List ℕ) (s : Held) (r : With Reply) (u : Held) → low.Replies N S (and (call.Give p) b) s r u →
       ((r.it ≡ Outside) × (N ≤ p) × (u ≡ s)) ⊎ ((r.it ≡ NoRoom) × Crowded N S p s × (u ≡ s)) ⊎ ((r.it ≡ Done) × (p < N) × ((v : List ℕ) × (u ≡ changed p v s)))

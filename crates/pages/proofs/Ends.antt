@@ -16,7 +16,7 @@ use Rattle.pager.specs.declared.state.Call.{Call}
 use Rattle.pager.specs.declared.state.Call.TheVariants as call
 use Rattle.pager.specs.declared.state.Reply.{Reply}
 use Rattle.pager.specs.declared.state.Reply.TheVariants.{Page, Done, NoRoom, Found, Outside}
-use Rattle.pager.proofs.Stands.{pager-whole}
+use Rattle.pager.proofs.Stands.{pager_whole}
 use Rattle.pages.specs.Layer.{Turn, frame_of, tg, st, given, GetBy, PutBy, FlushOn, CallStarts, Starts, OwnBy, Hears, frames_layer}
 use Rattle.pages.specs.Model.{pages_judge, PagesWhole, RoomStands, Memory, Takings}
 use Rattle.pages.specs.declared.frames.PageCall.{PageCall}
@@ -127,13 +127,13 @@ frames-end : (size : ℕ) → EndsAbove frames_layer size
 frames-end size w a g =
     settles-by frames_layer (λ w a. Unit {0}) left (λ a x b i h. (tt, start-at a b x 200 a.doing (omega arith) h)) (λ a r x b i h. (tt, hear-at a b x a.doing r.it r.bytes h)) w a tt
 
-pub pages-whole : PagesWhole
-pages-whole =
-    layers-compose Pager Call Never Reply Frames PageCall Never Reply pager_judge pages_judge pager_engine frames_layer pager-whole
+pub pages_whole : PagesWhole
+pages_whole =
+    layers-compose Pager Call Never Reply Frames PageCall Never Reply pager_judge pages_judge pager_engine frames_layer pager_whole
     (record { keeps = λ size z. keeps-above (pager_judge size) (pages_judge size) frames_layer size (stands size z); ends = λ size z. frames-end size })
 
-pub room-stands : RoomStands
-room-stands size k z h = omega (arith, z.least, z.most)
+pub room_stands : RoomStands
+room_stands size k z h = omega (arith, z.least, z.most)
 
 -- what is taken follows from the sizes
 pager-memory : (size : ℕ) (m : Pager) → Opened size m → below.Memory size m

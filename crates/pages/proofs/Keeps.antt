@@ -1,6 +1,6 @@
 -- The frames keep to the model of pages above any store that keeps to the pager's, and so on the device.
 use Rattle.std.proofs.Common.{◌≡◌, ℕ, ◌+◌, ◌-◌, ◌<◌, ◌≤◌, Bool, true, false, cond, eqb, leb, ◌⊎◌, Some, None, List, [], length, get_or, vec_items, sym, refl, ap, ◌∙◌, subst, inl, inr, arith, get_or-set_other, get_or-set_same, eqb-true}
-use Rattle.std.proofs.lemmas.Bool.{leb-true, leb-false}
+use Rattle.std.proofs.lemmas.Bool.{leb-true, leb-false, not-true, not-false, true≢false}
 use borrow.Author.Tests.{eqb-false}
 use Rattle.device.specs.Device.{With, and, Sized}
 use Rattle.device.specs.declared.Never.{Never}
@@ -22,9 +22,9 @@ use Rattle.pages.specs.declared.frames.PageCall.TheVariants.{Get, Put, Vacant, C
 use Rattle.pages.specs.declared.frames.Doing.{Doing}
 use Rattle.pages.specs.declared.frames.Doing.TheVariants.{Rising, Resting, Asked, Short, Owning, Evicting, Clearing, Making, Fetching, Searching, Flushing, Committing, Undoing}
 use Rattle.pages.specs.declared.frames.Frames.{Frames}
-use Rattle.pages.proofs.Agree.{not-true, not-false, at_same, at_other, Core, Cache, NoPage, cache-but, cache-fill, cache-leave, cache-plain, cache-weak, cache-wrote, wrote-holds, wrote-own, own-full, core-wrote, core-put, core-again, core-clear, blank-same, based, down-of, cache-empty, clean-same, core-keep, cache-keep, room}
+use Rattle.pages.proofs.Agree.{at_same, at_other, Core, Cache, NoPage, cache-but, cache-fill, cache-leave, cache-plain, cache-weak, cache-wrote, wrote-holds, wrote-own, own-full, core-wrote, core-put, core-again, core-clear, blank-same, based, down-of, cache-empty, clean-same, core-keep, cache-keep, room}
 use Rattle.pages.proofs.Cuts.{raised_at, taken_at, blank-down, Lost, amid-based, lost, done_at}
-use Rattle.pages.proofs.Between.{never-bool, put_of, clear_of, give-of, get-of, First, vacant-of, commit-of, undo-of, Of, Putting, Sending, InOwning, InEvicting, InClearing, InMaking, InFetching, InSearching, InFlushing, InCommitting, InUndoing, Amid, Known, BegunAt, Inv, cache-same, same-cache, same_of, same_tag, same_flag}
+use Rattle.pages.proofs.Between.{put_of, clear_of, give-of, get-of, First, vacant-of, commit-of, undo-of, Of, Putting, Sending, InOwning, InEvicting, InClearing, InMaking, InFetching, InSearching, InFlushing, InCommitting, InUndoing, Amid, Known, BegunAt, Inv, cache-same, same-cache, same_of, same_tag, same_flag}
 
 -- ON A DEVICE OF SO MANY SECTORS
 module _ (size : ℕ) (sized : Sized size) where
@@ -94,7 +94,7 @@ module _ (size : ℕ) (sized : Sized size) where
         give u (Put p) Done t' (sym w.put) y.turn (puts p c.bytes (fr b b.at) t l w.long) (record {
           core = core;
           cache = cache-fill P p l (tg a) (tg b) z (st b) (fr a) (fr b) u t' (tag-there p (p + 1) true (given a) a b k) (λ f n. flag-there p (p + 1) true (given a) a b k f n ∙ sym (zs f n)) (row-there p (p + 1) true (given a) a b k)
-              (tag-here p (p + 1) true (given a) a b k) (row_here p (p + 1) true (given a) a b k ∙ w.bytes ∙ sym (at_same p p c.bytes t.now refl)) (λ _. own) (λ e. absurd (never-bool P S (sym up ∙ e))) old cache;
+              (tag-here p (p + 1) true (given a) a b k) (row_here p (p + 1) true (given a) a b k ∙ w.bytes ∙ sym (at_same p p c.bytes t.now refl)) (λ _. own) (λ e. absurd (true≢false (sym up ∙ e))) old cache;
         })
 
     -- AT A CALL
@@ -219,7 +219,7 @@ module _ (size : ℕ) (sized : Sized size) where
               core = core;
               cache = same-cache P S (λ q. q ≡ p) a b (changed p v s) (put_page p c.bytes t) y.same cache;
             })
-        by false false i k y = store p (changed p v s) (st a) (λ f n. refl) l w core cache own (λ e. absurd (never-bool P S (sym e ∙ k))) y
+        by false false i k y = store p (changed p v s) (st a) (λ f n. refl) l w core cache own (λ e. absurd (true≢false (sym e ∙ k))) y
 
     hear-owning : (p : ℕ) (d : With Call) (s u : Held) (r : With Reply) → InOwning P S p c d a s t → low.Replies P S d s r u → Hears (Owning p) r.it r.bytes a x b → Leads u
     hear-owning p d s u r h y q = by (give-of P S p d.bytes s r u (subst (λ k. low.Replies P S (and k d.bytes) s r u) h.call y))
@@ -281,7 +281,7 @@ module _ (size : ℕ) (sized : Sized size) where
         store p u z (λ k n. at_other f k false (st a) n) h.inside h.putting (back-core E f d s u r t' h.sending h.core h.cache but y)
         (back-cache E f d s u r t' h.sending h.core h.cache but y z (at_same f f false (st a) refl) (λ k n. at_other f k false (st a) n))
         (subst (λ k. k.given p ≡ true) (sym (back_is E f d s u r t' h.sending h.core h.cache but y)) (given-kept s p (tg a f - 1) (fr a f) h.owned))
-        (λ e. absurd (never-bool P S (sym e ∙ at_same f f false (st a) refl))) q
+        (λ e. absurd (true≢false (sym e ∙ at_same f f false (st a) refl))) q
 
     hear-clearing : (p : ℕ) (d : With Call) (s u : Held) (r : With Reply) → InClearing P S p c d a s t → low.Replies P S d s r u → Hears (Clearing p) r.it r.bytes a x b → Leads u
     hear-clearing p d s u r h y q =
@@ -322,7 +322,7 @@ module _ (size : ℕ) (sized : Sized size) where
           clean = vacated-flag p a b q.vacates;
           of = record {
             core = back-core (NoPage P) f d s u r t h.sending o.core o.cache (λ n. n) y;
-            cache = vacated p a b z u t q.vacates (λ k n. at_other f k false (st a) n) (λ l. cache.cold p l (λ n. n) (λ i j. never-bool P S (sym j ∙ down))) (λ j. absurd (never-bool P S (sym j ∙ down))) (cache-weak P p (tg a) z (fr a) u t cache);
+            cache = vacated p a b z u t q.vacates (λ k n. at_other f k false (st a) n) (λ l. cache.cold p l (λ n. n) (λ i j. true≢false (sym j ∙ down))) (λ j. absurd (true≢false (sym j ∙ down))) (cache-weak P p (tg a) z (fr a) u t cache);
           };
         })
 
@@ -349,7 +349,7 @@ module _ (size : ℕ) (sized : Sized size) where
             subst Leads (sym e.3) (give s (Get p) Page t (sym h.get) (k.turn long) (subst (λ w. Replies size (and (Get p) c.bytes) t (and Page w) t) (sym v) (gets p c.bytes t l)) (record {
               core = h.of.core;
               cache = cache-fill P p l (tg a) (tg b) (st a) (st b) (fr a) (fr b) s t (tag-there p (p + 1) false r.bytes a b z) (flag-there p (p + 1) false r.bytes a b z) (row-there p (p + 1) false r.bytes a b z)
-                  (tag-here p (p + 1) false r.bytes a b z) row (λ j. absurd (never-bool P S (sym j ∙ flag))) (λ _. same) (λ j. absurd (never-bool P S (sym j ∙ h.clean))) (cache-weak P p (tg a) (st a) (fr a) s t h.of.cache);
+                  (tag-here p (p + 1) false r.bytes a b z) row (λ j. absurd (true≢false (sym j ∙ flag))) (λ _. same) (λ j. absurd (true≢false (sym j ∙ h.clean))) (cache-weak P p (tg a) (st a) (fr a) s t h.of.cache);
             }))
 
     hear-searching : (d : With Call) (s u : Held) (r : With Reply) → InSearching P S c d a s t → low.Replies P S d s r u → Told r.it a x b → Leads u

@@ -63,7 +63,12 @@ pub record Goes (m : Frames) (x : Turn) (d : Doing) (w : Turn) (n : Frames) : Ty
   pub doing : n.doing ≡ d
   pub same : Same m n
 
--- a frame is another page's; it is nobody's
+-- a frame is another page's, before and after it has the bytes; it is nobody's
+pub record Claims (p : ℕ) (flag : Bool) (m n : Frames) : Type 0 where
+  pub tags : vec_items n.tags ≡ slice_set (vec_items m.tags) (frame_of p) (p + 1)
+  pub stale : vec_items n.stale ≡ slice_set (vec_items m.stale) (frame_of p) flag
+  pub rows : n.rows ≡ m.rows
+
 pub record Refills (p tag : ℕ) (flag : Bool) (bytes : List ℕ) (m n : Frames) : Type 0 where
   pub tags : vec_items n.tags ≡ slice_set (vec_items m.tags) (frame_of p) tag
   pub stale : vec_items n.stale ≡ slice_set (vec_items m.stale) (frame_of p) flag

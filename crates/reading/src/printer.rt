@@ -1,477 +1,370 @@
 // A read statement printed: keywords small, one blank between words, every compound expression in brackets.
 //
-// The number left falls with each call, so that it ends on any nodes; a read statement nests less deep than it has nodes.
+// The number left falls with each call and with each item of a list, so that printing ends on any nodes; a read statement nests less
+// deep than it has nodes.
+ghost use Rattle.std.specs.Prelude.{ℕ, ◌<◌};
+
 use std::alloc::AllocError;
-use text::{Fold, Node, Nodes, Op, Span, Statement, bytes_of, small_of};
+use text::{Fold, Node, Nodes, Op, Question, Span, Statement, bytes_of, small_of};
 
-fn say(out: &mut Vec<u8>, bytes: &[u8]) -> Result<(), AllocError> {
-    out.extend_from_slice(bytes)
-}
+// As many nodes as there can be.
+const NODES: usize = 8200;
 
-fn name(out: &mut Vec<u8>, text: &[u8], span: Span) -> Result<(), AllocError> {
-    for b in bytes_of(text, span) {
-        out.push(small_of(*b))?;
-    }
-    Ok(())
-}
-
-fn number(out: &mut Vec<u8>, n: u64) -> Result<(), AllocError> {
-    if n >= 10 {
-        number(out, n / 10)?;
-    }
-    say(out, &[b'0' + (n % 10) as u8])
-}
-
-fn quoted(out: &mut Vec<u8>, text: &[u8], span: Span) -> Result<(), AllocError> {
-    say(out, b"'")?;
-    say(out, bytes_of(text, span))?;
-    say(out, b"'")
-}
-
-fn sign(op: Op) -> &'static [u8] {
+fn sign(op: Op) -> &'static str {
     match op {
-        Op::Or => b" or ",
-        Op::And => b" and ",
-        Op::Equal => b" = ",
-        Op::Below => b" < ",
-        Op::AtMost => b" <= ",
-        Op::Plus => b" + ",
-        Op::Minus => b" - ",
-        Op::Concat => b" || ",
-        Op::Times => b" * ",
+        Op::Or => " or ",
+        Op::And => " and ",
+        Op::Equal => " = ",
+        Op::Below => " < ",
+        Op::AtMost => " <= ",
+        Op::Plus => " + ",
+        Op::Minus => " - ",
+        Op::Concat => " || ",
+        Op::Times => " * ",
     }
 }
 
-fn fold_word(fold: Fold) -> &'static [u8] {
+fn fold_word(fold: Fold) -> &'static str {
     match fold {
-        Fold::Count => b"count(",
-        Fold::Sum => b"sum(",
-        Fold::Min => b"min(",
-        Fold::Max => b"max(",
+        Fold::Count => "count(",
+        Fold::Sum => "sum(",
+        Fold::Min => "min(",
+        Fold::Max => "max(",
     }
 }
 
-fn column(out: &mut Vec<u8>, text: &[u8], source: Span, column: Span) -> Result<(), AllocError> {
-    if source.len > 0 {
-        name(out, text, source)?;
-        say(out, b".")?;
+// A statement's nodes and bytes, and where it is printed.
+#[derive(Drop)]
+pub struct Printer<'a> {
+    pub out: &'a mut Vec<u8>,
+    pub nodes: &'a Nodes,
+    pub text: &'a [u8],
+}
+
+// Words, names and values.
+impl<'a> Printer<'a> {
+    fn say(&mut self, words: &str) -> Result<(), AllocError> {
+        self.out.extend_from_slice(words.as_bytes())
     }
-    name(out, text, column)
-}
 
-// An expression between two texts.
-#[cycle(printing)]
-fn within(
-    out: &mut Vec<u8>,
-    nodes: &Nodes,
-    text: &[u8],
-    before: &[u8],
-    i: u16,
-    after: &[u8],
-    left: usize,
-) -> Result<(), AllocError> {
-    say(out, before)?;
-    expr(out, nodes, text, i, left)?;
-    say(out, after)
-}
-
-#[cycle(printing)]
-fn both(
-    out: &mut Vec<u8>,
-    nodes: &Nodes,
-    text: &[u8],
-    op: Op,
-    a: u16,
-    b: u16,
-    left: usize,
-) -> Result<(), AllocError> {
-    within(out, nodes, text, b"(", a, sign(op), left)?;
-    within(out, nodes, text, b"", b, b")", left)
-}
-
-#[cycle(printing)]
-fn expr(
-    out: &mut Vec<u8>,
-    nodes: &Nodes,
-    text: &[u8],
-    i: u16,
-    left: usize,
-) -> Result<(), AllocError> {
-    if left == 0 {
-        return Ok(());
+    fn name(&mut self, span: Span) -> Result<(), AllocError> {
+        for b in bytes_of(self.text, span) {
+            self.out.push(small_of(*b))?;
+        }
+        Ok(())
     }
-    let node = nodes.get(i);
-    match node {
-        Node::Null => say(out, b"null"),
-        Node::Number(n) => number(out, n),
-        Node::Text(span) => quoted(out, text, span),
-        Node::Column(source, of) => column(out, text, source, of),
-        Node::Both(op, a, b) => both(out, nodes, text, op, a, b, left - 1),
-        Node::Negated(a) => within(out, nodes, text, b"(- ", a, b")", left - 1),
-        Node::Not(a) => within(out, nodes, text, b"(not ", a, b")", left - 1),
-        Node::IsNull(a) => within(out, nodes, text, b"(", a, b" is null)", left - 1),
-        Node::RowCount => say(out, b"count(*)"),
-        Node::Folded(fold, a) => within(out, nodes, text, fold_word(fold), a, b")", left - 1),
-        Node::Exists(q) => query_within(out, nodes, text, b"exists (", q, left - 1),
-        Node::Scalar(q) => query_within(out, nodes, text, b"(", q, left - 1),
-        _ => Ok(()),
+
+    // A word, and a name after it.
+    fn named(&mut self, word: &str, of: Span) -> Result<(), AllocError> {
+        self.say(word)?;
+        self.name(of)
+    }
+
+    fn number(&mut self, n: u64) -> Result<(), AllocError> {
+        let digits = format!(in *self.out.allocator(); "{n}")?;
+        self.say(digits.as_str())
+    }
+
+    fn quoted(&mut self, span: Span) -> Result<(), AllocError> {
+        self.say("'")?;
+        self.out.extend_from_slice(bytes_of(self.text, span))?;
+        self.say("'")
+    }
+
+    fn column(&mut self, source: Span, column: Span) -> Result<(), AllocError> {
+        if source.len > 0 {
+            self.name(source)?;
+            self.say(".")?;
+        }
+        self.name(column)
+    }
+
+    // Whether two names are the same.
+    fn is_same(&self, a: Span, b: Span) -> bool {
+        bytes_of(self.text, a).eq_ignore_ascii_case(bytes_of(self.text, b))
+    }
+
+    // The comma between two items, if another follows.
+    fn comma(&mut self, rest: u16) -> Result<bool, AllocError> {
+        if rest > 0 {
+            self.say(", ")?;
+        }
+        Ok(rest > 0)
     }
 }
 
-#[cycle(printing)]
-fn query_within(
-    out: &mut Vec<u8>,
-    nodes: &Nodes,
-    text: &[u8],
-    before: &[u8],
-    i: u16,
-    left: usize,
-) -> Result<(), AllocError> {
-    say(out, before)?;
-    query(out, nodes, text, i, left)?;
-    say(out, b")")
+impl<'a> Printer<'a> {
+    // The items of a list, with commas: `item` prints one, which may nest as deep as the number it is given, and answers where the next is.
+    fn list<F: FnMut(&mut Printer<'a>, Node, usize) -> Result<Option<u16>, AllocError>>(
+        &mut self,
+        first: u16,
+        left: usize,
+        mut item: F,
+    ) -> Result<(), AllocError>
+        requires { (f : F) (printer : _) (node : _) (turn : ℕ) → turn < left → F.pre f printer node turn }
+    {
+        let mut at = first;
+        for turn in (0..left).rev() {
+            let Some(rest) = item(self, self.nodes.get(at), turn)? else {
+                return Ok(());
+            };
+            if !self.comma(rest)? {
+                return Ok(());
+            }
+            at = rest;
+        }
+        Ok(())
+    }
 }
 
-// The expressions of a list, with commas.
-#[cycle(printing)]
-fn exprs(
-    out: &mut Vec<u8>,
-    nodes: &Nodes,
-    text: &[u8],
-    i: u16,
-    left: usize,
-) -> Result<(), AllocError> {
-    if left == 0 {
-        return Ok(());
+// Expressions and queries.
+impl<'a> Printer<'a> {
+    // An expression between two texts.
+    #[cycle(printing)]
+    fn within(&mut self, before: &str, i: u16, after: &str, left: usize) -> Result<(), AllocError> {
+        self.say(before)?;
+        self.expr(i, left)?;
+        self.say(after)
     }
-    let node = nodes.get(i);
-    let Node::Item(e, rest) = node else {
-        return Ok(());
-    };
-    expr(out, nodes, text, e, left - 1)?;
-    if rest > 0 {
-        say(out, b", ")?;
-        exprs(out, nodes, text, rest, left - 1)?;
-    }
-    Ok(())
-}
 
-#[cycle(printing)]
-fn keys(
-    out: &mut Vec<u8>,
-    nodes: &Nodes,
-    text: &[u8],
-    i: u16,
-    left: usize,
-) -> Result<(), AllocError> {
-    if left == 0 {
-        return Ok(());
+    #[cycle(printing)]
+    fn both(&mut self, op: Op, a: u16, b: u16, left: usize) -> Result<(), AllocError> {
+        self.within("(", a, sign(op), left)?;
+        self.within("", b, ")", left)
     }
-    let node = nodes.get(i);
-    let Node::Key(e, down, rest) = node else {
-        return Ok(());
-    };
-    expr(out, nodes, text, e, left - 1)?;
-    if down {
-        say(out, b" desc")?;
-    }
-    if rest > 0 {
-        say(out, b", ")?;
-        keys(out, nodes, text, rest, left - 1)?;
-    }
-    Ok(())
-}
 
-// A clause with a condition, left out where it is 1.
-#[cycle(printing)]
-fn condition(
-    out: &mut Vec<u8>,
-    nodes: &Nodes,
-    text: &[u8],
-    word: &[u8],
-    i: u16,
-    left: usize,
-) -> Result<(), AllocError> {
-    let node = nodes.get(i);
-    if let Node::Number(1) = node {
-        return Ok(());
-    }
-    within(out, nodes, text, word, i, b"", left)
-}
-
-#[cycle(printing)]
-fn query(
-    out: &mut Vec<u8>,
-    nodes: &Nodes,
-    text: &[u8],
-    i: u16,
-    left: usize,
-) -> Result<(), AllocError> {
-    if left == 0 {
-        return Ok(());
-    }
-    let node = nodes.get(i);
-    let Node::Query(q) = node else {
-        return Ok(());
-    };
-    say(out, b"select ")?;
-    if q.distinct {
-        say(out, b"distinct ")?;
-    }
-    exprs(out, nodes, text, q.out, left - 1)?;
-    say(out, b" from ")?;
-    sources(out, nodes, text, q.from, left - 1)?;
-    condition(out, nodes, text, b" where ", q.wanted, left - 1)?;
-    if q.groups > 0 {
-        say(out, b" group by ")?;
-        exprs(out, nodes, text, q.groups, left - 1)?;
-        condition(out, nodes, text, b" having ", q.having, left - 1)?;
-    }
-    if q.keys > 0 {
-        say(out, b" order by ")?;
-        keys(out, nodes, text, q.keys, left - 1)?;
-    }
-    limit(out, nodes, q.limit)
-}
-
-fn limit(out: &mut Vec<u8>, nodes: &Nodes, i: u16) -> Result<(), AllocError> {
-    if i == 0 {
-        return Ok(());
-    }
-    let node = nodes.get(i);
-    let Node::Limit(most, skip) = node else {
-        return Ok(());
-    };
-    say(out, b" limit ")?;
-    number(out, most)?;
-    if skip > 0 {
-        say(out, b" offset ")?;
-        number(out, skip)?;
-    }
-    Ok(())
-}
-
-// Whether two names are the same.
-fn same_name(text: &[u8], a: Span, b: Span) -> bool {
-    let x = bytes_of(text, a);
-    let y = bytes_of(text, b);
-    if x.len() != y.len() {
-        return false;
-    }
-    for (i, c) in x.iter().enumerate() {
-        if small_of(*c) != small_of(y[i]) {
-            return false;
+    #[cycle(printing)]
+    fn expr(&mut self, i: u16, left: usize) -> Result<(), AllocError> {
+        if left == 0 {
+            return Ok(());
+        }
+        match self.nodes.get(i) {
+            Node::Null => self.say("null"),
+            Node::Number(n) => self.number(n),
+            Node::Text(span) => self.quoted(span),
+            Node::Column(source, of) => self.column(source, of),
+            Node::Both(op, a, b) => self.both(op, a, b, left - 1),
+            Node::Negated(a) => self.within("(- ", a, ")", left - 1),
+            Node::Not(a) => self.within("(not ", a, ")", left - 1),
+            Node::IsNull(a) => self.within("(", a, " is null)", left - 1),
+            Node::RowCount => self.say("count(*)"),
+            Node::Folded(fold, a) => self.within(fold_word(fold), a, ")", left - 1),
+            Node::Exists(q) => self.query_within("exists (", q, left - 1),
+            Node::Scalar(q) => self.query_within("(", q, left - 1),
+            _ => Ok(()),
         }
     }
-    true
-}
 
-fn sources(
-    out: &mut Vec<u8>,
-    nodes: &Nodes,
-    text: &[u8],
-    i: u16,
-    left: usize,
-) -> Result<(), AllocError> {
-    if left == 0 {
-        return Ok(());
+    #[cycle(printing)]
+    fn query_within(&mut self, before: &str, i: u16, left: usize) -> Result<(), AllocError> {
+        self.say(before)?;
+        self.query(i, left)?;
+        self.say(")")
     }
-    let node = nodes.get(i);
-    let Node::Source(table, alias, rest) = node else {
-        return Ok(());
-    };
-    name(out, text, table)?;
-    if !same_name(text, table, alias) {
-        say(out, b" ")?;
-        name(out, text, alias)?;
-    }
-    if rest > 0 {
-        say(out, b", ")?;
-        sources(out, nodes, text, rest, left - 1)?;
-    }
-    Ok(())
-}
 
-fn cols(
-    out: &mut Vec<u8>,
-    nodes: &Nodes,
-    text: &[u8],
-    i: u16,
-    left: usize,
-) -> Result<(), AllocError> {
-    if left == 0 {
-        return Ok(());
+    #[cycle(printing)]
+    fn exprs(&mut self, first: u16, left: usize) -> Result<(), AllocError> {
+        self.list(first, left, |printer, node, turn| {
+            let Node::Item(e, rest) = node else {
+                return Ok(None);
+            };
+            printer.expr(e, turn)?;
+            Ok(Some(rest))
+        })
     }
-    let node = nodes.get(i);
-    let Node::Col(col, is_text, must, rest) = node else {
-        return Ok(());
-    };
-    name(out, text, col)?;
-    say(out, if is_text { b" text" } else { b" int" })?;
-    if must {
-        say(out, b" not null")?;
-    }
-    if rest > 0 {
-        say(out, b", ")?;
-        cols(out, nodes, text, rest, left - 1)?;
-    }
-    Ok(())
-}
 
-fn names(
-    out: &mut Vec<u8>,
-    nodes: &Nodes,
-    text: &[u8],
-    i: u16,
-    left: usize,
-) -> Result<(), AllocError> {
-    if left == 0 {
-        return Ok(());
+    #[cycle(printing)]
+    fn keys(&mut self, first: u16, left: usize) -> Result<(), AllocError> {
+        self.list(first, left, |printer, node, turn| {
+            let Node::Key(e, down, rest) = node else {
+                return Ok(None);
+            };
+            printer.within("", e, if down { " desc" } else { "" }, turn)?;
+            Ok(Some(rest))
+        })
     }
-    let node = nodes.get(i);
-    let Node::Name(col, rest) = node else {
-        return Ok(());
-    };
-    name(out, text, col)?;
-    if rest > 0 {
-        say(out, b", ")?;
-        names(out, nodes, text, rest, left - 1)?;
-    }
-    Ok(())
-}
 
-fn rows(
-    out: &mut Vec<u8>,
-    nodes: &Nodes,
-    text: &[u8],
-    i: u16,
-    left: usize,
-) -> Result<(), AllocError> {
-    if left == 0 {
-        return Ok(());
+    // A clause with a condition, left out where it is 1.
+    #[cycle(printing)]
+    fn condition(&mut self, word: &str, i: u16, left: usize) -> Result<(), AllocError> {
+        if let Node::Number(1) = self.nodes.get(i) {
+            return Ok(());
+        }
+        self.within(word, i, "", left)
     }
-    let node = nodes.get(i);
-    let Node::Row(row, rest) = node else {
-        return Ok(());
-    };
-    say(out, b"(")?;
-    exprs(out, nodes, text, row, left - 1)?;
-    say(out, b")")?;
-    if rest > 0 {
-        say(out, b", ")?;
-        rows(out, nodes, text, rest, left - 1)?;
-    }
-    Ok(())
-}
 
-fn sets(
-    out: &mut Vec<u8>,
-    nodes: &Nodes,
-    text: &[u8],
-    i: u16,
-    left: usize,
-) -> Result<(), AllocError> {
-    if left == 0 {
-        return Ok(());
-    }
-    let node = nodes.get(i);
-    let Node::Set(col, to, rest) = node else {
-        return Ok(());
-    };
-    name(out, text, col)?;
-    within(out, nodes, text, b" = ", to, b"", left - 1)?;
-    if rest > 0 {
-        say(out, b", ")?;
-        sets(out, nodes, text, rest, left - 1)?;
-    }
-    Ok(())
-}
-
-// A word, and a name after it.
-fn named(out: &mut Vec<u8>, text: &[u8], word: &[u8], of: Span) -> Result<(), AllocError> {
-    say(out, word)?;
-    name(out, text, of)
-}
-
-fn index(
-    out: &mut Vec<u8>,
-    nodes: &Nodes,
-    text: &[u8],
-    unique: bool,
-    of: Span,
-    table: Span,
-    list: u16,
-) -> Result<(), AllocError> {
-    named(
-        out,
-        text,
-        if unique {
-            b"create unique index "
+    #[cycle(printing)]
+    fn query(&mut self, i: u16, left: usize) -> Result<(), AllocError> {
+        let Node::Query(q) = self.nodes.get(i) else {
+            return Ok(());
+        };
+        if left == 0 {
+            return Ok(());
+        }
+        self.say(if q.distinct {
+            "select distinct "
         } else {
-            b"create index "
-        },
-        of,
-    )?;
-    named(out, text, b" on ", table)?;
-    say(out, b" (")?;
-    names(out, nodes, text, list, 8200)?;
-    say(out, b")")
+            "select "
+        })?;
+        self.exprs(q.out, left - 1)?;
+        self.say(" from ")?;
+        self.sources(q.from, left - 1)?;
+        self.condition(" where ", q.wanted, left - 1)?;
+        self.groups(q, left - 1)?;
+        if q.keys > 0 {
+            self.say(" order by ")?;
+            self.keys(q.keys, left - 1)?;
+        }
+        self.limit(q.limit)
+    }
+
+    #[cycle(printing)]
+    fn groups(&mut self, q: Question, left: usize) -> Result<(), AllocError> {
+        if q.groups == 0 {
+            return Ok(());
+        }
+        self.say(" group by ")?;
+        self.exprs(q.groups, left)?;
+        self.condition(" having ", q.having, left)
+    }
+
+    fn limit(&mut self, i: u16) -> Result<(), AllocError> {
+        let Node::Limit(most, skip) = self.nodes.get(i) else {
+            return Ok(());
+        };
+        self.say(" limit ")?;
+        self.number(most)?;
+        if skip > 0 {
+            self.say(" offset ")?;
+            self.number(skip)?;
+        }
+        Ok(())
+    }
+
+    fn sources(&mut self, first: u16, left: usize) -> Result<(), AllocError> {
+        self.list(first, left, |printer, node, _| {
+            let Node::Source(table, alias, rest) = node else {
+                return Ok(None);
+            };
+            printer.name(table)?;
+            if !printer.is_same(table, alias) {
+                printer.named(" ", alias)?;
+            }
+            Ok(Some(rest))
+        })
+    }
 }
 
-fn update(
-    out: &mut Vec<u8>,
-    nodes: &Nodes,
-    text: &[u8],
-    table: Span,
-    list: u16,
-    wanted: u16,
-) -> Result<(), AllocError> {
-    named(out, text, b"update ", table)?;
-    say(out, b" set ")?;
-    sets(out, nodes, text, list, 8200)?;
-    condition(out, nodes, text, b" where ", wanted, 8200)
+// The lists of statements.
+impl<'a> Printer<'a> {
+    fn cols(&mut self, first: u16) -> Result<(), AllocError> {
+        self.list(first, NODES, |printer, node, _| {
+            let Node::Col(col, is_text, must, rest) = node else {
+                return Ok(None);
+            };
+            printer.name(col)?;
+            printer.say(if is_text { " text" } else { " int" })?;
+            printer.say(if must { " not null" } else { "" })?;
+            Ok(Some(rest))
+        })
+    }
+
+    fn names(&mut self, first: u16) -> Result<(), AllocError> {
+        self.list(first, NODES, |printer, node, _| {
+            let Node::Name(col, rest) = node else {
+                return Ok(None);
+            };
+            printer.name(col)?;
+            Ok(Some(rest))
+        })
+    }
+
+    fn rows(&mut self, first: u16) -> Result<(), AllocError> {
+        self.list(first, NODES, |printer, node, left| {
+            let Node::Row(row, rest) = node else {
+                return Ok(None);
+            };
+            printer.say("(")?;
+            printer.exprs(row, left)?;
+            printer.say(")")?;
+            Ok(Some(rest))
+        })
+    }
+
+    fn sets(&mut self, first: u16) -> Result<(), AllocError> {
+        self.list(first, NODES, |printer, node, left| {
+            let Node::Set(col, to, rest) = node else {
+                return Ok(None);
+            };
+            printer.name(col)?;
+            printer.within(" = ", to, "", left)?;
+            Ok(Some(rest))
+        })
+    }
 }
 
-// Appends a read statement, of these nodes and bytes, as text.
-pub fn print(
-    out: &mut Vec<u8>,
-    nodes: &Nodes,
-    text: &[u8],
-    statement: Statement,
-) -> Result<(), AllocError> {
-    match statement {
-        Statement::CreateTable(table, list) => {
-            named(out, text, b"create table ", table)?;
-            say(out, b" (")?;
-            cols(out, nodes, text, list, 8200)?;
-            say(out, b")")
+impl<'a> Printer<'a> {
+    fn create_index(
+        &mut self,
+        unique: bool,
+        of: Span,
+        table: Span,
+        list: u16,
+    ) -> Result<(), AllocError> {
+        self.say(if unique {
+            "create unique index "
+        } else {
+            "create index "
+        })?;
+        self.name(of)?;
+        self.named(" on ", table)?;
+        self.say(" (")?;
+        self.names(list)?;
+        self.say(")")
+    }
+
+    fn update(&mut self, table: Span, list: u16, wanted: u16) -> Result<(), AllocError> {
+        self.named("update ", table)?;
+        self.say(" set ")?;
+        self.sets(list)?;
+        self.condition(" where ", wanted, NODES)
+    }
+
+    pub fn print(&mut self, statement: Statement) -> Result<(), AllocError> {
+        match statement {
+            Statement::CreateTable(table, list) => {
+                self.named("create table ", table)?;
+                self.say(" (")?;
+                self.cols(list)?;
+                self.say(")")
+            }
+            Statement::DropTable(table) => self.named("drop table ", table),
+            Statement::CreateIndex(unique, of, table, list) => {
+                self.create_index(unique, of, table, list)
+            }
+            Statement::DropIndex(of) => self.named("drop index ", of),
+            Statement::Insert(table, list) => {
+                self.named("insert into ", table)?;
+                self.say(" values ")?;
+                self.rows(list)
+            }
+            Statement::InsertFrom(table, q) => {
+                self.named("insert into ", table)?;
+                self.say(" ")?;
+                self.query(q, NODES)
+            }
+            Statement::Update(table, list, wanted) => self.update(table, list, wanted),
+            Statement::Delete(table, wanted) => {
+                self.named("delete from ", table)?;
+                self.condition(" where ", wanted, NODES)
+            }
+            Statement::Select(q) => self.query(q, NODES),
+            Statement::Begin => self.say("begin"),
+            Statement::Commit => self.say("commit"),
+            Statement::Rollback => self.say("rollback"),
+            Statement::Savepoint(of) => self.named("savepoint ", of),
+            Statement::RollbackTo(of) => self.named("rollback to ", of),
+            Statement::Release(of) => self.named("release ", of),
         }
-        Statement::DropTable(table) => named(out, text, b"drop table ", table),
-        Statement::CreateIndex(unique, of, table, list) => index(
-            out, nodes, text, unique, of, table, list,
-        ),
-        Statement::DropIndex(of) => named(out, text, b"drop index ", of),
-        Statement::Insert(table, list) => {
-            named(out, text, b"insert into ", table)?;
-            say(out, b" values ")?;
-            rows(out, nodes, text, list, 8200)
-        }
-        Statement::InsertFrom(table, q) => {
-            named(out, text, b"insert into ", table)?;
-            say(out, b" ")?;
-            query(out, nodes, text, q, 8200)
-        }
-        Statement::Update(table, list, wanted) => update(out, nodes, text, table, list, wanted),
-        Statement::Delete(table, wanted) => {
-            named(out, text, b"delete from ", table)?;
-            condition(out, nodes, text, b" where ", wanted, 8200)
-        }
-        Statement::Select(q) => query(out, nodes, text, q, 8200),
-        Statement::Begin => say(out, b"begin"),
-        Statement::Commit => say(out, b"commit"),
-        Statement::Rollback => say(out, b"rollback"),
-        Statement::Savepoint(of) => named(out, text, b"savepoint ", of),
-        Statement::RollbackTo(of) => named(out, text, b"rollback to ", of),
-        Statement::Release(of) => named(out, text, b"release ", of),
     }
 }

@@ -11,7 +11,7 @@ use Rattle.device.proofs.Whole.{layers-compose}
 use Rattle.device.proofs.Inside.{whole-inside}
 use Rattle.meaning.specs.Session.{Connection, Running, Idle, idle, next, reads_not, too_long, nexts, reads, Answers, Next as WantsRow, No as Refuses}
 use Rattle.pages.specs.Model.{Pages, pages_judge, pages_engine}
-use Rattle.pages.proofs.Ends.{pages-whole}
+use Rattle.pages.proofs.Ends.{pages_whole}
 use Rattle.pages.specs.declared.frames.PageCall.{PageCall}
 use Rattle.pager.specs.declared.state.Reply as pager
 use Rattle.pages.specs.declared.frames.Frames.{Frames}
@@ -153,5 +153,5 @@ module _ (size : ℕ) where
 pub engine_whole : EngineWhole
 engine_whole =
     whole-inside (λ m. m.tower) (over pages_engine session_layer) (tables built)
-    (layers-compose (Over Pager Frames) PageCall Never pager.Reply Session Call Value Reply pages_judge (tables built) pages_engine session_layer pages-whole
+    (layers-compose (Over Pager Frames) PageCall Never pager.Reply Session Call Value Reply pages_judge (tables built) pages_engine session_layer pages_whole
     (record { keeps = λ size h. keeps-above (pages_judge size) (tables built size) session_layer size (stands size); ends = λ size h. session-ends size }))

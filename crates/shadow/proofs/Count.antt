@@ -1,7 +1,7 @@
 -- Where no slot is free, there are at least as many pages that have one as there are slots.
 use Rattle.std.proofs.Common.{◌≡◌, ℕ, zero, suc, ◌+◌, ◌<◌, ◌≤◌, Bool, true, false, cond, not, ◌&&◌, eqb, leb, ◌⊎◌, sym, refl, ap, ◌∙◌, subst, inl, inr, arith, eq-eqb, ne_eqb, eqb-true}
 use borrow.Author.Tests.{eqb-false}
-use Rattle.std.proofs.lemmas.Bool.{le-leb, leb-true, leb-false, lt-leb}
+use Rattle.std.proofs.lemmas.Bool.{and_parts, le-leb, leb-true, leb-false, lt-leb}
 use Rattle.shadow.specs.Layout.{Free, count}
 
 abbrev Under : ℕ → (ℕ → Bool) → (ℕ → Bool) → Type 0
@@ -51,12 +51,6 @@ pigeon N S L G a b new (suc t) l =
 abbrev upto : ℕ → ℕ → Bool
 upto v t = leb 1 v && leb v t
 
-pub and-true : (a b : Bool) → a && b ≡ true → (a ≡ true) × (b ≡ true)
-and-true true true e = (refl, refl)
-and-true true false e = absurd (let u : ◌≡◌ {A = ℕ} 0 1 = cc in omega arith)
-and-true false true e = absurd (let u : ◌≡◌ {A = ℕ} 0 1 = cc in omega arith)
-and-true false false e = absurd (let u : ◌≡◌ {A = ℕ} 0 1 = cc in omega arith)
-
 pub true-and : (a b : Bool) → a ≡ true → b ≡ true → a && b ≡ true
 true-and a b e f = ap (λ x. x && b) e ∙ f
 
@@ -65,7 +59,7 @@ false-and true b e = e
 false-and false b e = refl
 
 upto-in : (v t : ℕ) → upto v t ≡ true → (1 ≤ v) × (v ≤ t)
-upto-in v t e = let (a, b) = and-true (leb 1 v) (leb v t) e in (leb-true 1 v a, leb-true v t b)
+upto-in v t e = let (a, b) = and_parts (leb 1 v) (leb v t) e in (leb-true 1 v a, leb-true v t b)
 
 upto-of : (v t : ℕ) → 1 ≤ v → v ≤ t → upto v t ≡ true
 upto-of v t a b = true-and (leb 1 v) (leb v t) (le-leb 1 v a) (le-leb v t b)
@@ -91,9 +85,9 @@ pub no_room : (N S : ℕ) (b w o : ℕ → ℕ) (live given : ℕ → Bool) → 
     ((s : ℕ) → 1 ≤ s → s ≤ S → Free N b w o s → ⊥) → S ≤ count N live + count N given
 no_room N S b w o live given hl hg none =
     let x = pigeon N S (λ t p. upto (b p) t) (λ t p. upto (w p) t && moved (w p) (b p)) (λ t p l e. upto-more (b p) t e)
-    (λ t p l e. let (u, v) = and-true (upto (w p) t) (moved (w p) (b p)) e in true-and (upto (w p) (t + 1)) (moved (w p) (b p)) (upto-more (w p) t u) v) new S (omega arith) in
+    (λ t p l e. let (u, v) = and_parts (upto (w p) t) (moved (w p) (b p)) e in true-and (upto (w p) (t + 1)) (moved (w p) (b p)) (upto-more (w p) t u) v) new S (omega arith) in
     let y = count-le N (λ p. upto (b p) S) live (λ p l e. hl p l (upto-in (b p) S e).0) in
-    let z = count-le N (λ p. upto (w p) S && moved (w p) (b p)) given (λ p l e. let (u, v) = and-true (upto (w p) S) (moved (w p) (b p)) e in hg p l (upto-in (w p) S u).0 (moved_in (w p) (b p) v)) in
+    let z = count-le N (λ p. upto (w p) S && moved (w p) (b p)) given (λ p l e. let (u, v) = and_parts (upto (w p) S) (moved (w p) (b p)) e in hg p l (upto-in (w p) S u).0 (moved_in (w p) (b p) v)) in
     omega arith
   where
     at : (t : ℕ) → t < S → (c : Bool) → leb N (o (t + 1)) ≡ c → (i : Bool) → eqb (b (o (t + 1))) (t + 1) ≡ i → (j : Bool) → eqb (w (o (t + 1))) (t + 1) ≡ j →

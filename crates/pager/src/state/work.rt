@@ -9,6 +9,17 @@ use device::{Ask, Never, Store, bytes_fit};
 use octets::{is_blank, put_bytes};
 use std::alloc::{AllocError, Global};
 
+impl Pager {
+    // A call ends.
+    fn answer(&mut self, reply: Reply) -> Ask<Never, Reply>
+        ensures asks { result ≡ Ask.Answer reply }
+        ensures rest { self.new ≡ record self.old { phase = Phase.Idle } }
+    {
+        self.phase = Phase::Idle;
+        Ask::Answer(reply)
+    }
+}
+
 // Coming up: the header, the active area, then what the other area has.
 impl Pager {
     // The next map sector is wanted, or all are there.
@@ -35,7 +46,7 @@ impl Pager {
             self.phase = Phase::Fetch(i + 1);
             Ask::Again
         } else {
-            Ask::Answer(Reply::Done)
+            self.answer(Reply::Done)
         }
     }
 
@@ -47,8 +58,7 @@ impl Pager {
             self.phase = Phase::Comparing(i);
             Ask::Read(leaves::area_at(self.maps, !self.second, i))
         } else {
-            self.phase = Phase::Idle;
-            Ask::Answer(Reply::Done)
+            self.answer(Reply::Done)
         }
     }
 
@@ -62,7 +72,7 @@ impl Pager {
             self.phase = Phase::Check(i + 1);
             Ask::Again
         } else {
-            Ask::Answer(Reply::Done)
+            self.answer(Reply::Done)
         }
     }
 }
@@ -90,13 +100,11 @@ impl Pager {
         ensures { Does (Phase.Asked (Call.Get p)) self.old [] result self.new }
     {
         if p >= self.pages {
-            self.phase = Phase::Idle;
-            return Ask::Answer(Reply::Outside);
+            return self.answer(Reply::Outside);
         }
         let Some(slot) = self.slot_of(p) else {
             self.page.fill(0);
-            self.phase = Phase::Idle;
-            return Ask::Answer(Reply::Page);
+            return self.answer(Reply::Page);
         };
         self.phase = Phase::Getting(slot, 0);
         Ask::Read(leaves::slot_at(self.maps, slot))
@@ -107,12 +115,11 @@ impl Pager {
         ensures { Does (Phase.Getting slot j) self.old given.now result self.new }
     {
         if !self.in_slot(slot, j) {
-            return Ask::Answer(Reply::Done);
+            return self.answer(Reply::Done);
         }
         put_bytes(&mut self.page, 512 * j, given);
         if j == 7 {
-            self.phase = Phase::Idle;
-            return Ask::Answer(Reply::Page);
+            return self.answer(Reply::Page);
         }
         self.phase = Phase::Getting(slot, j + 1);
         Ask::Read(leaves::slot_at(self.maps, slot) + (j + 1) as u64)
@@ -184,18 +191,15 @@ impl Pager {
     fn put(&mut self, p: usize) -> Ask<Never, Reply>
         ensures { Does (Phase.Asked (Call.Put p)) self.old [] result self.new }
     {
-        self.phase = Phase::Idle;
         if p >= self.pages {
-            return Ask::Answer(Reply::Outside);
+            return self.answer(Reply::Outside);
         }
         if is_blank(&self.page) {
             self.enter(p, 0);
-            self.phase = Phase::Idle;
-            return Ask::Answer(Reply::Done);
+            return self.answer(Reply::Done);
         }
         let Some(slot) = self.slot_for(p) else {
-            self.phase = Phase::Idle;
-            return Ask::Answer(Reply::NoRoom);
+            return self.answer(Reply::NoRoom);
         };
         self.phase = Phase::Putting(slot, 0);
         Ask::Again
@@ -206,14 +210,11 @@ impl Pager {
         ensures { Does (Phase.Asked (Call.Give p)) self.old [] result self.new }
     {
         if p >= self.pages {
-            self.phase = Phase::Idle;
-            return Ask::Answer(Reply::Outside);
+            return self.answer(Reply::Outside);
         }
-        let slot = self.slot_for(p);
-        self.phase = Phase::Idle;
-        match slot {
-            Some(_) => Ask::Answer(Reply::Done),
-            None => Ask::Answer(Reply::NoRoom),
+        match self.slot_for(p) {
+            Some(_) => self.answer(Reply::Done),
+            None => self.answer(Reply::NoRoom),
         }
     }
 
@@ -222,11 +223,10 @@ impl Pager {
         ensures { Does (Phase.Putting slot j) self.old [] result self.new }
     {
         if j >= 8 {
-            self.phase = Phase::Idle;
-            return Ask::Answer(Reply::Done);
+            return self.answer(Reply::Done);
         }
         if !self.in_slot(slot, j) {
-            return Ask::Answer(Reply::Done);
+            return self.answer(Reply::Done);
         }
         leaves::cut(&mut self.sector, &self.page, j);
         self.phase = Phase::Putting(slot, j + 1);
@@ -238,8 +238,7 @@ impl Pager {
         ensures { Does (Phase.Asked (Call.Vacant p)) self.old [] result self.new }
     {
         let page = (p..self.pages).find(|q| self.present[*q] == 0);
-        self.phase = Phase::Idle;
-        Ask::Answer(Reply::Found(page.map(|page| page as u64)))
+        self.answer(Reply::Found(page.map(|page| page as u64)))
     }
 }
 
@@ -250,8 +249,7 @@ impl Pager {
     {
         leaves::settle(&mut self.present, &self.base, &self.dirty);
         self.dirty.fill(false);
-        self.phase = Phase::Idle;
-        Ask::Answer(Reply::Done)
+        self.answer(Reply::Done)
     }
 
     // Whether the other area lacks a map sector as it is at present.
@@ -290,8 +288,7 @@ impl Pager {
         leaves::settle(&mut self.base, &self.present, &self.dirty);
         self.behind.copy_from_slice(&self.dirty);
         self.dirty.fill(false);
-        self.phase = Phase::Idle;
-        Ask::Answer(Reply::Done)
+        self.answer(Reply::Done)
     }
 }
 
@@ -314,7 +311,7 @@ impl Pager {
             Phase::Loading(i) => self.load(i, given),
             Phase::Check(i) => self.check(i),
             Phase::Comparing(i) => self.compare(i, given),
-            Phase::Idle => Ask::Answer(Reply::Done),
+            Phase::Idle => self.answer(Reply::Done),
             Phase::Asked(Call::Get(p)) => self.get(p as usize),
             Phase::Asked(Call::Put(p)) => self.put(p as usize),
             Phase::Asked(Call::Give(p)) => self.give(p as usize),
@@ -324,10 +321,7 @@ impl Pager {
                 Ask::Again
             }
             Phase::Asked(Call::Undo) => self.undo(),
-            Phase::Short => {
-                self.phase = Phase::Idle;
-                Ask::Answer(Reply::Outside)
-            }
+            Phase::Short => self.answer(Reply::Outside),
             Phase::Getting(slot, j) => self.gather(slot, j, given),
             Phase::Putting(slot, j) => self.lay(slot, j),
             Phase::Filling(i) => self.fill(i),
@@ -383,6 +377,7 @@ impl Store for Pager {
 
 impl Pager {
     // A pager for a device of so many sectors, which it has yet to read. Whatever is done with it then, and whenever the power fails, it keeps to the model.
+    #[tactic(auto, using(crate::proofs::Stands::pager_whole))]
     pub fn open(heap: Global, size: u64) -> Result<Pager, AllocError>
         ensures opened { IfOk result (Opened size) }
         ensures memory { IfOk result (Memory size) }

@@ -2,7 +2,7 @@
 ghost use Rattle.std.specs.Prelude.{◌≡◌, ℕ, ◌+◌, ◌-◌, ◌*◌, ◌%◌, ◌<◌, ◌≤◌, true, false, [], length, IfOk, slice_index_or};
 ghost use Rattle.octets.specs.Parts.{blank};
 ghost use Rattle.pages.specs.Model.{pages_engine, PagesWhole, RoomStands, Memory, Takings};
-ghost use Rattle.pages.specs.Layer.{Wakes, frame_of, tg, st, fr, given, Same, Goes, Refills, Vacates, Stores, WritesBack, PageIn, Hit, GetStarts, PutStarts, NextStale, FlushOn, UndoStarts, Owns, Cleared, Made, Fetched, Flushed, frames_layer};
+ghost use Rattle.pages.specs.Layer.{Wakes, frame_of, tg, st, fr, given, Same, Claims, Vacates, Stores, WritesBack, PageIn, Hit, GetStarts, PutStarts, NextStale, FlushOn, UndoStarts, Owns, Cleared, Made, Fetched, Flushed, frames_layer};
 
 use super::{Doing, FRAMES, Frames, PageCall};
 use device::{Layer, Never, Next, Over};
@@ -56,18 +56,38 @@ impl Frames {
     }
 }
 
+impl Frames {
+    // The answer to the call.
+    fn give(&mut self, reply: Reply) -> Next<Call, Never, Reply>
+        ensures gives { result ≡ Next.Give reply }
+        ensures rest { self.new ≡ record self.old { doing = Doing.Resting } }
+    {
+        self.doing = Doing::Resting;
+        Next::Give(reply)
+    }
+
+    // A call of the pager.
+    fn ask(&mut self, call: Call, doing: Doing) -> Next<Call, Never, Reply>
+        ensures calls { result ≡ Next.Call call }
+        ensures rest { self.new ≡ record self.old { doing = doing } }
+    {
+        self.doing = doing;
+        Next::Call(call)
+    }
+}
+
 // The frames themselves.
 impl Frames {
-    // The frame of a page gets a page's bytes.
-    fn refill(&mut self, p: u64, tag: u64, stale: bool, bytes: &[u8])
-        requires { length bytes.now ≡ 4096 }
-        ensures refills { Refills p tag stale bytes.now self.old self.new }
-        ensures at { self.new.at ≡ self.old.at }
+    // The frame of a page is that page's, and is yet to get its bytes.
+    fn claim(&mut self, p: u64, stale: bool) -> usize
+        ensures frame { (result ≡ frame_of p) × (result < 128) }
+        ensures claims { p < 18446744073709551615 → Claims p stale self.old self.new }
+        ensures page { self.new.page ≡ self.old.page }
     {
         let f = frame_of(p);
-        self.tags[f] = tag;
+        self.tags[f] = tag_of(p);
         self.stale[f] = stale;
-        self.rows[f].copy_from_slice(bytes);
+        f
     }
 
     // The frame of a page is nobody's.
@@ -83,12 +103,9 @@ impl Frames {
     fn store(&mut self, p: u64) -> Next<Call, Never, Reply>
         ensures { Stores p self.old result self.new }
     {
-        let f = frame_of(p);
-        self.tags[f] = tag_of(p);
-        self.stale[f] = true;
+        let f = self.claim(p, true);
         self.rows[f].copy_from_slice(&self.page);
-        self.doing = Doing::Resting;
-        Next::Give(Reply::Done)
+        self.give(Reply::Done)
     }
 
     // A frame is written back.
@@ -97,8 +114,8 @@ impl Frames {
         ensures { WritesBack f doing self.old result self.new }
     {
         self.at = f;
-        self.doing = doing;
-        Next::Call(Call::Put(self.tags[f].saturating_sub(1)))
+        let page = self.tags[f].saturating_sub(1);
+        self.ask(Call::Put(page), doing)
     }
 
     // The next stale frame is written back, or the pager commits.
@@ -107,8 +124,7 @@ impl Frames {
         ensures same { Same self.old self.new }
     {
         let Some(f) = self.next_stale(i) else {
-            self.doing = Doing::Committing;
-            return Next::Call(Call::Commit);
+            return self.ask(Call::Commit, Doing::Committing);
         };
         self.write_back(f, Doing::Flushing(f))
     }
@@ -123,13 +139,11 @@ impl Frames {
         let stale = self.is_stale(frame_of(p));
         if hit {
             self.at = frame_of(p);
-            self.doing = Doing::Resting;
-            Next::Give(Reply::Page)
+            self.give(Reply::Page)
         } else if stale {
             self.write_back(frame_of(p), Doing::Making(p))
         } else {
-            self.doing = Doing::Fetching(p);
-            Next::Call(Call::Get(p))
+            self.ask(Call::Get(p), Doing::Fetching(p))
         }
     }
 
@@ -140,14 +154,12 @@ impl Frames {
         let hit = self.hit(p);
         let stale = self.is_stale(frame_of(p));
         if blank {
-            self.doing = Doing::Clearing(p);
-            return Next::Call(Call::Put(p));
+            return self.ask(Call::Put(p), Doing::Clearing(p));
         }
         if hit && stale {
             return self.store(p);
         }
-        self.doing = Doing::Owning(p);
-        Next::Call(Call::Give(p))
+        self.ask(Call::Give(p), Doing::Owning(p))
     }
 
     fn undo(&mut self) -> Next<Call, Never, Reply>
@@ -155,8 +167,7 @@ impl Frames {
     {
         self.tags.fill(0);
         self.stale.fill(false);
-        self.doing = Doing::Undoing;
-        Next::Call(Call::Undo)
+        self.ask(Call::Undo, Doing::Undoing)
     }
 }
 
@@ -180,29 +191,26 @@ impl Frames {
         if self.hit(p) {
             self.vacate(p);
         }
-        self.doing = Doing::Resting;
-        Next::Give(Reply::Done)
+        self.give(Reply::Done)
     }
 
     fn made(&mut self, p: u64) -> Next<Call, Never, Reply>
         ensures { Made p self.old result self.new }
     {
         self.vacate(p);
-        self.doing = Doing::Fetching(p);
-        Next::Call(Call::Get(p))
+        self.ask(Call::Get(p), Doing::Fetching(p))
     }
 
     fn fetched(&mut self, p: u64, bytes: &[u8]) -> Next<Call, Never, Reply>
         ensures { Fetched p self.old bytes.now result self.new }
     {
         if bytes.len() != 4096 {
-            self.doing = Doing::Resting;
-            return Next::Give(Reply::Outside);
+            return self.give(Reply::Outside);
         }
-        self.refill(p, tag_of(p), false, bytes);
-        self.at = frame_of(p);
-        self.doing = Doing::Resting;
-        Next::Give(Reply::Page)
+        let f = self.claim(p, false);
+        self.rows[f].copy_from_slice(bytes);
+        self.at = f;
+        self.give(Reply::Page)
     }
 
     fn flushed(&mut self, i: usize) -> Next<Call, Never, Reply>
@@ -212,13 +220,6 @@ impl Frames {
             self.stale[i] = false;
         }
         self.flush(i.saturating_add(1))
-    }
-
-    fn told(&mut self, reply: Reply) -> Next<Call, Never, Reply>
-        ensures { Goes self.old result Doing.Resting (Next.Give reply) self.new }
-    {
-        self.doing = Doing::Resting;
-        Next::Give(reply)
     }
 }
 
@@ -250,20 +251,11 @@ impl Layer for Frames {
         match self.doing {
             Doing::Asked(PageCall::Get(p)) => self.get(p),
             Doing::Asked(PageCall::Put(p)) => self.put(p),
-            Doing::Asked(PageCall::Vacant(p)) => {
-                self.doing = Doing::Searching;
-                Next::Call(Call::Vacant(p))
-            }
+            Doing::Asked(PageCall::Vacant(p)) => { self.ask(Call::Vacant(p), Doing::Searching) }
             Doing::Asked(PageCall::Commit) => self.flush(0),
             Doing::Asked(PageCall::Undo) => self.undo(),
-            Doing::Short => {
-                self.doing = Doing::Resting;
-                Next::Give(Reply::Outside)
-            }
-            _ => {
-                self.doing = Doing::Resting;
-                Next::Give(Reply::Done)
-            }
+            Doing::Short => { self.give(Reply::Outside) }
+            _ => { self.give(Reply::Done) }
         }
     }
 
@@ -275,7 +267,7 @@ impl Layer for Frames {
             (Doing::Making(p), _) => self.made(p),
             (Doing::Fetching(p), Reply::Page) => self.fetched(p, bytes),
             (Doing::Flushing(i), _) => self.flushed(i),
-            (_, _) => self.told(r),
+            (_, _) => self.give(r),
         }
     }
 
@@ -314,6 +306,7 @@ impl Frames {
 
 // Pages on a device of so many sectors that are yet to come up. Whatever is done with them then, and whenever the power fails, they keep to the model.
 // All memory is taken here.
+#[tactic(auto, using(crate::proofs::Ends::pages_whole, crate::proofs::Ends::takings))]
 pub fn open(heap: Global, size: u64) -> Result<Over<Pager, Frames>, AllocError>
     ensures opened { IfOk result (pages_engine.Opens size) }
     ensures memory { IfOk result (Takings size) }
@@ -325,8 +318,7 @@ pub fn open(heap: Global, size: u64) -> Result<Over<Pager, Frames>, AllocError>
 }
 
 // Where there is no room, what is to be kept is more than the device has room for by the stated sum.
-pub fn room_stands() -> u8
+#[tactic(auto, using(crate::proofs::Ends::room_stands))]
+pub fn room_stands()
     ensures { RoomStands }
-{
-    0
-}
+{}
