@@ -49,6 +49,7 @@ pub fn answer<D: Disk>(
 ) -> Result<Reply, Stop> {
     row.clear();
     let mut given = [0; 512];
+    // kept: a count that is not reached, since a call has to end and nothing counts down to its end
     for _ in 0..u64::MAX {
         match engine.step(&given) {
             Ask::Read(sector) => disk.read(sector, &mut given)?,

@@ -22,6 +22,7 @@ fn take_part(part: &[u8], line: &mut Vec<u8>) -> io::Result<(usize, bool)> {
 pub fn read_line<R: BufRead>(input: &mut R, line: &mut Vec<u8>) -> io::Result<bool> {
     line.clear();
     let mut any = false;
+    // kept: a count that is not reached, since a call has to end and nothing counts down to its end
     for _ in 0..u64::MAX {
         let part = input.fill_buf()?;
         if part.is_empty() {
@@ -45,6 +46,7 @@ pub fn for_each_line<R: BufRead, F: FnMut(&[u8]) -> Result<(), Stop>>(
 ) -> Result<(), Stop>
     requires { F.IsAlwaysCallable answer }
 {
+    // kept: a count that is not reached, since a call has to end and nothing counts down to its end
     for _ in 0..u64::MAX {
         if !read_line(input, line)? {
             return Ok(());

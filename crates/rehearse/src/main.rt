@@ -74,6 +74,7 @@ impl Rehearsal {
 
     // Comes up, however often the power fails in it.
     fn rise(&mut self) -> Result<(), Stop> {
+        // kept: a count that is not reached, since a call has to end and nothing counts down to its end
         for _ in 0..u64::MAX {
             if self.up {
                 return Ok(());

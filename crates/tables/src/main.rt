@@ -46,6 +46,7 @@ impl Console {
 
     // The rows of the query that runs, up to its end.
     fn rows(&mut self, rt: &HostRuntime) -> Result<(), Stop> {
+        // kept: a count that is not reached, since a call has to end and nothing counts down to its end
         for _ in 0..u64::MAX {
             self.engine.next();
             let reply = self.hear()?;
