@@ -1,32 +1,9 @@
 // A read statement printed: keywords small, one blank between words, every compound expression in brackets.
 //
 // The number left falls with each call, so that it ends on any nodes; a read statement nests less deep than it has nodes.
-use std::alloc::AllocError;
-use text::{Fold, Node, Nodes, Op, Span, Statement, bytes_of, small_of};
-
-fn say(out: &mut Vec<u8>, bytes: &[u8]) -> Result<(), AllocError> {
-    out.extend_from_slice(bytes)
-}
-
-fn name(out: &mut Vec<u8>, text: &[u8], span: Span) -> Result<(), AllocError> {
-    for b in bytes_of(text, span) {
-        out.push(small_of(*b))?;
-    }
-    Ok(())
-}
-
-fn number(out: &mut Vec<u8>, n: u64) -> Result<(), AllocError> {
-    if n >= 10 {
-        number(out, n / 10)?;
-    }
-    say(out, &[b'0' + (n % 10) as u8])
-}
-
-fn quoted(out: &mut Vec<u8>, text: &[u8], span: Span) -> Result<(), AllocError> {
-    say(out, b"'")?;
-    say(out, bytes_of(text, span))?;
-    say(out, b"'")
-}
+use std::io;
+use std::io::Write;
+use text::{Fold, Node, Nodes, Op, Question, Span, Statement, Table, bytes_of};
 
 fn sign(op: Op) -> &'static [u8] {
     match op {
@@ -51,427 +28,271 @@ fn fold_word(fold: Fold) -> &'static [u8] {
     }
 }
 
-fn column(out: &mut Vec<u8>, text: &[u8], source: Span, column: Span) -> Result<(), AllocError> {
-    if source.len > 0 {
-        name(out, text, source)?;
-        say(out, b".")?;
-    }
-    name(out, text, column)
+// Appends to `out` what stands in the nodes, over the statement's bytes.
+#[derive(Drop)]
+pub struct Printer<'o, 'a> {
+    pub out: &'o mut Vec<u8>,
+    pub nodes: &'a Nodes,
+    pub text: &'a [u8],
 }
 
-// An expression between two texts.
-#[cycle(printing)]
-fn within(
-    out: &mut Vec<u8>,
-    nodes: &Nodes,
-    text: &[u8],
-    before: &[u8],
-    i: u16,
-    after: &[u8],
-    left: usize,
-) -> Result<(), AllocError> {
-    say(out, before)?;
-    expr(out, nodes, text, i, left)?;
-    say(out, after)
-}
+impl<'o, 'a> Printer<'o, 'a> {
+    fn say(&mut self, bytes: &[u8]) -> io::Result<()> {
+        Ok(self.out.extend_from_slice(bytes)?)
+    }
 
-#[cycle(printing)]
-fn both(
-    out: &mut Vec<u8>,
-    nodes: &Nodes,
-    text: &[u8],
-    op: Op,
-    a: u16,
-    b: u16,
-    left: usize,
-) -> Result<(), AllocError> {
-    within(out, nodes, text, b"(", a, sign(op), left)?;
-    within(out, nodes, text, b"", b, b")", left)
-}
+    fn name(&mut self, span: Span) -> io::Result<()> {
+        let text = self.text;
+        for b in bytes_of(text, span) {
+            self.out.push(b.to_ascii_lowercase())?;
+        }
+        Ok(())
+    }
 
-#[cycle(printing)]
-fn expr(
-    out: &mut Vec<u8>,
-    nodes: &Nodes,
-    text: &[u8],
-    i: u16,
-    left: usize,
-) -> Result<(), AllocError> {
-    if left == 0 {
-        return Ok(());
+    fn number(&mut self, n: u64) -> io::Result<()> {
+        write!(self.out, "{n}")
     }
-    let node = nodes.get(i);
-    match node {
-        Node::Null => say(out, b"null"),
-        Node::Number(n) => number(out, n),
-        Node::Text(span) => quoted(out, text, span),
-        Node::Column(source, of) => column(out, text, source, of),
-        Node::Both(op, a, b) => both(out, nodes, text, op, a, b, left - 1),
-        Node::Negated(a) => within(out, nodes, text, b"(- ", a, b")", left - 1),
-        Node::Not(a) => within(out, nodes, text, b"(not ", a, b")", left - 1),
-        Node::IsNull(a) => within(out, nodes, text, b"(", a, b" is null)", left - 1),
-        Node::RowCount => say(out, b"count(*)"),
-        Node::Folded(fold, a) => within(out, nodes, text, fold_word(fold), a, b")", left - 1),
-        Node::Exists(q) => query_within(out, nodes, text, b"exists (", q, left - 1),
-        Node::Scalar(q) => query_within(out, nodes, text, b"(", q, left - 1),
-        _ => Ok(()),
-    }
-}
 
-#[cycle(printing)]
-fn query_within(
-    out: &mut Vec<u8>,
-    nodes: &Nodes,
-    text: &[u8],
-    before: &[u8],
-    i: u16,
-    left: usize,
-) -> Result<(), AllocError> {
-    say(out, before)?;
-    query(out, nodes, text, i, left)?;
-    say(out, b")")
-}
+    fn quoted(&mut self, span: Span) -> io::Result<()> {
+        let text = self.text;
+        self.say(b"'")?;
+        self.say(bytes_of(text, span))?;
+        self.say(b"'")
+    }
 
-// The expressions of a list, with commas.
-#[cycle(printing)]
-fn exprs(
-    out: &mut Vec<u8>,
-    nodes: &Nodes,
-    text: &[u8],
-    i: u16,
-    left: usize,
-) -> Result<(), AllocError> {
-    if left == 0 {
-        return Ok(());
+    fn column(&mut self, source: Option<Span>, column: Span) -> io::Result<()> {
+        if let Some(source) = source {
+            self.name(source)?;
+            self.say(b".")?;
+        }
+        self.name(column)
     }
-    let node = nodes.get(i);
-    let Node::Item(e, rest) = node else {
-        return Ok(());
-    };
-    expr(out, nodes, text, e, left - 1)?;
-    if rest > 0 {
-        say(out, b", ")?;
-        exprs(out, nodes, text, rest, left - 1)?;
-    }
-    Ok(())
-}
 
-#[cycle(printing)]
-fn keys(
-    out: &mut Vec<u8>,
-    nodes: &Nodes,
-    text: &[u8],
-    i: u16,
-    left: usize,
-) -> Result<(), AllocError> {
-    if left == 0 {
-        return Ok(());
+    // An expression between two texts.
+    #[cycle(printing)]
+    fn within(&mut self, before: &[u8], i: u16, after: &[u8], left: usize) -> io::Result<()> {
+        self.say(before)?;
+        self.expr(i, left)?;
+        self.say(after)
     }
-    let node = nodes.get(i);
-    let Node::Key(e, down, rest) = node else {
-        return Ok(());
-    };
-    expr(out, nodes, text, e, left - 1)?;
-    if down {
-        say(out, b" desc")?;
-    }
-    if rest > 0 {
-        say(out, b", ")?;
-        keys(out, nodes, text, rest, left - 1)?;
-    }
-    Ok(())
-}
 
-// A clause with a condition, left out where it is 1.
-#[cycle(printing)]
-fn condition(
-    out: &mut Vec<u8>,
-    nodes: &Nodes,
-    text: &[u8],
-    word: &[u8],
-    i: u16,
-    left: usize,
-) -> Result<(), AllocError> {
-    let node = nodes.get(i);
-    if let Node::Number(1) = node {
-        return Ok(());
+    #[cycle(printing)]
+    fn both(&mut self, op: Op, a: u16, b: u16, left: usize) -> io::Result<()> {
+        self.within(b"(", a, sign(op), left)?;
+        self.within(b"", b, b")", left)
     }
-    within(out, nodes, text, word, i, b"", left)
-}
 
-#[cycle(printing)]
-fn query(
-    out: &mut Vec<u8>,
-    nodes: &Nodes,
-    text: &[u8],
-    i: u16,
-    left: usize,
-) -> Result<(), AllocError> {
-    if left == 0 {
-        return Ok(());
-    }
-    let node = nodes.get(i);
-    let Node::Query(q) = node else {
-        return Ok(());
-    };
-    say(out, b"select ")?;
-    if q.distinct {
-        say(out, b"distinct ")?;
-    }
-    exprs(out, nodes, text, q.out, left - 1)?;
-    say(out, b" from ")?;
-    sources(out, nodes, text, q.from, left - 1)?;
-    condition(out, nodes, text, b" where ", q.wanted, left - 1)?;
-    if q.groups > 0 {
-        say(out, b" group by ")?;
-        exprs(out, nodes, text, q.groups, left - 1)?;
-        condition(out, nodes, text, b" having ", q.having, left - 1)?;
-    }
-    if q.keys > 0 {
-        say(out, b" order by ")?;
-        keys(out, nodes, text, q.keys, left - 1)?;
-    }
-    limit(out, nodes, q.limit)
-}
-
-fn limit(out: &mut Vec<u8>, nodes: &Nodes, i: u16) -> Result<(), AllocError> {
-    if i == 0 {
-        return Ok(());
-    }
-    let node = nodes.get(i);
-    let Node::Limit(most, skip) = node else {
-        return Ok(());
-    };
-    say(out, b" limit ")?;
-    number(out, most)?;
-    if skip > 0 {
-        say(out, b" offset ")?;
-        number(out, skip)?;
-    }
-    Ok(())
-}
-
-// Whether two names are the same.
-fn same_name(text: &[u8], a: Span, b: Span) -> bool {
-    let x = bytes_of(text, a);
-    let y = bytes_of(text, b);
-    if x.len() != y.len() {
-        return false;
-    }
-    for (i, c) in x.iter().enumerate() {
-        if small_of(*c) != small_of(y[i]) {
-            return false;
+    #[cycle(printing)]
+    fn expr(&mut self, i: u16, left: usize) -> io::Result<()> {
+        if left == 0 {
+            return Ok(());
+        }
+        match self.nodes.get(i) {
+            Node::Null => self.say(b"null"),
+            Node::Number(n) => self.number(n),
+            Node::Text(span) => self.quoted(span),
+            Node::Column(source, of) => self.column(source, of),
+            Node::Both(op, a, b) => self.both(op, a, b, left - 1),
+            Node::Negated(a) => self.within(b"(- ", a, b")", left - 1),
+            Node::Not(a) => self.within(b"(not ", a, b")", left - 1),
+            Node::IsNull(a) => self.within(b"(", a, b" is null)", left - 1),
+            Node::RowCount => self.say(b"count(*)"),
+            Node::Folded(fold, a) => self.within(fold_word(fold), a, b")", left - 1),
+            Node::Exists(q) => self.query_within(b"exists (", q, left - 1),
+            Node::Scalar(q) => self.query_within(b"(", q, left - 1),
+            _ => Ok(()),
         }
     }
-    true
-}
 
-fn sources(
-    out: &mut Vec<u8>,
-    nodes: &Nodes,
-    text: &[u8],
-    i: u16,
-    left: usize,
-) -> Result<(), AllocError> {
-    if left == 0 {
-        return Ok(());
+    #[cycle(printing)]
+    fn query_within(&mut self, before: &[u8], i: u16, left: usize) -> io::Result<()> {
+        self.say(before)?;
+        self.query(i, left)?;
+        self.say(b")")
     }
-    let node = nodes.get(i);
-    let Node::Source(table, alias, rest) = node else {
-        return Ok(());
-    };
-    name(out, text, table)?;
-    if !same_name(text, table, alias) {
-        say(out, b" ")?;
-        name(out, text, alias)?;
-    }
-    if rest > 0 {
-        say(out, b", ")?;
-        sources(out, nodes, text, rest, left - 1)?;
-    }
-    Ok(())
-}
 
-fn cols(
-    out: &mut Vec<u8>,
-    nodes: &Nodes,
-    text: &[u8],
-    i: u16,
-    left: usize,
-) -> Result<(), AllocError> {
-    if left == 0 {
-        return Ok(());
-    }
-    let node = nodes.get(i);
-    let Node::Col(col, is_text, must, rest) = node else {
-        return Ok(());
-    };
-    name(out, text, col)?;
-    say(out, if is_text { b" text" } else { b" int" })?;
-    if must {
-        say(out, b" not null")?;
-    }
-    if rest > 0 {
-        say(out, b", ")?;
-        cols(out, nodes, text, rest, left - 1)?;
-    }
-    Ok(())
-}
-
-fn names(
-    out: &mut Vec<u8>,
-    nodes: &Nodes,
-    text: &[u8],
-    i: u16,
-    left: usize,
-) -> Result<(), AllocError> {
-    if left == 0 {
-        return Ok(());
-    }
-    let node = nodes.get(i);
-    let Node::Name(col, rest) = node else {
-        return Ok(());
-    };
-    name(out, text, col)?;
-    if rest > 0 {
-        say(out, b", ")?;
-        names(out, nodes, text, rest, left - 1)?;
-    }
-    Ok(())
-}
-
-fn rows(
-    out: &mut Vec<u8>,
-    nodes: &Nodes,
-    text: &[u8],
-    i: u16,
-    left: usize,
-) -> Result<(), AllocError> {
-    if left == 0 {
-        return Ok(());
-    }
-    let node = nodes.get(i);
-    let Node::Row(row, rest) = node else {
-        return Ok(());
-    };
-    say(out, b"(")?;
-    exprs(out, nodes, text, row, left - 1)?;
-    say(out, b")")?;
-    if rest > 0 {
-        say(out, b", ")?;
-        rows(out, nodes, text, rest, left - 1)?;
-    }
-    Ok(())
-}
-
-fn sets(
-    out: &mut Vec<u8>,
-    nodes: &Nodes,
-    text: &[u8],
-    i: u16,
-    left: usize,
-) -> Result<(), AllocError> {
-    if left == 0 {
-        return Ok(());
-    }
-    let node = nodes.get(i);
-    let Node::Set(col, to, rest) = node else {
-        return Ok(());
-    };
-    name(out, text, col)?;
-    within(out, nodes, text, b" = ", to, b"", left - 1)?;
-    if rest > 0 {
-        say(out, b", ")?;
-        sets(out, nodes, text, rest, left - 1)?;
-    }
-    Ok(())
-}
-
-// A word, and a name after it.
-fn named(out: &mut Vec<u8>, text: &[u8], word: &[u8], of: Span) -> Result<(), AllocError> {
-    say(out, word)?;
-    name(out, text, of)
-}
-
-fn index(
-    out: &mut Vec<u8>,
-    nodes: &Nodes,
-    text: &[u8],
-    unique: bool,
-    of: Span,
-    table: Span,
-    list: u16,
-) -> Result<(), AllocError> {
-    named(
-        out,
-        text,
-        if unique {
-            b"create unique index "
-        } else {
-            b"create index "
-        },
-        of,
-    )?;
-    named(out, text, b" on ", table)?;
-    say(out, b" (")?;
-    names(out, nodes, text, list, 8200)?;
-    say(out, b")")
-}
-
-fn update(
-    out: &mut Vec<u8>,
-    nodes: &Nodes,
-    text: &[u8],
-    table: Span,
-    list: u16,
-    wanted: u16,
-) -> Result<(), AllocError> {
-    named(out, text, b"update ", table)?;
-    say(out, b" set ")?;
-    sets(out, nodes, text, list, 8200)?;
-    condition(out, nodes, text, b" where ", wanted, 8200)
-}
-
-// Appends a read statement, of these nodes and bytes, as text.
-pub fn print(
-    out: &mut Vec<u8>,
-    nodes: &Nodes,
-    text: &[u8],
-    statement: Statement,
-) -> Result<(), AllocError> {
-    match statement {
-        Statement::CreateTable(table, list) => {
-            named(out, text, b"create table ", table)?;
-            say(out, b" (")?;
-            cols(out, nodes, text, list, 8200)?;
-            say(out, b")")
+    // The items of a list, with commas, after a text.
+    #[cycle(printing)]
+    fn list(&mut self, before: &[u8], first: u16, left: usize) -> io::Result<()> {
+        self.say(before)?;
+        let mut left = left;
+        let mut next = Some(first);
+        while left > 0 {
+            left -= 1;
+            let Some(i) = next else {
+                return Ok(());
+            };
+            if i != first {
+                self.say(b", ")?;
+            }
+            next = self.item(i, left)?;
         }
-        Statement::DropTable(table) => named(out, text, b"drop table ", table),
-        Statement::CreateIndex(unique, of, table, list) => index(
-            out, nodes, text, unique, of, table, list,
-        ),
-        Statement::DropIndex(of) => named(out, text, b"drop index ", of),
-        Statement::Insert(table, list) => {
-            named(out, text, b"insert into ", table)?;
-            say(out, b" values ")?;
-            rows(out, nodes, text, list, 8200)
+        Ok(())
+    }
+
+    // One item of a list; what it gives is the next one.
+    #[cycle(printing)]
+    fn item(&mut self, i: u16, left: usize) -> io::Result<Option<u16>> {
+        match self.nodes.get(i) {
+            Node::Item(e, rest) => {
+                self.expr(e, left)?;
+                Ok(rest)
+            }
+            Node::Key(key, rest) => {
+                self.within(b"", key.by, if key.down { b" desc" } else { b"" }, left)?;
+                Ok(rest)
+            }
+            Node::Row(row, rest) => {
+                self.list(b"(", row.first, left)?;
+                self.say(b")")?;
+                Ok(rest)
+            }
+            Node::Set(set, rest) => {
+                self.name(set.col)?;
+                self.within(b" = ", set.to, b"", left)?;
+                Ok(rest)
+            }
+            node => self.plain_item(node),
         }
-        Statement::InsertFrom(table, q) => {
-            named(out, text, b"insert into ", table)?;
-            say(out, b" ")?;
-            query(out, nodes, text, q, 8200)
+    }
+
+    // An item that holds no expression.
+    fn plain_item(&mut self, node: Node) -> io::Result<Option<u16>> {
+        match node {
+            Node::Source(table, rest) => {
+                self.table(table)?;
+                Ok(rest)
+            }
+            Node::Name(name, rest) => {
+                self.name(name)?;
+                Ok(rest)
+            }
+            Node::Col(col, rest) => {
+                self.name(col.name)?;
+                self.say(if col.text { b" text" } else { b" int" })?;
+                if col.must {
+                    self.say(b" not null")?;
+                }
+                Ok(rest)
+            }
+            _ => Ok(None),
         }
-        Statement::Update(table, list, wanted) => update(out, nodes, text, table, list, wanted),
-        Statement::Delete(table, wanted) => {
-            named(out, text, b"delete from ", table)?;
-            condition(out, nodes, text, b" where ", wanted, 8200)
+    }
+
+    // The alias is left out where it is the table's own name.
+    fn table(&mut self, table: Table) -> io::Result<()> {
+        self.name(table.name)?;
+        let name = bytes_of(self.text, table.name);
+        let alias = bytes_of(self.text, table.alias);
+        if !name.eq_ignore_ascii_case(alias) {
+            self.named(b" ", table.alias)?;
         }
-        Statement::Select(q) => query(out, nodes, text, q, 8200),
-        Statement::Begin => say(out, b"begin"),
-        Statement::Commit => say(out, b"commit"),
-        Statement::Rollback => say(out, b"rollback"),
-        Statement::Savepoint(of) => named(out, text, b"savepoint ", of),
-        Statement::RollbackTo(of) => named(out, text, b"rollback to ", of),
-        Statement::Release(of) => named(out, text, b"release ", of),
+        Ok(())
+    }
+
+    // A clause with a condition, left out where it is 1.
+    #[cycle(printing)]
+    fn condition(&mut self, word: &[u8], i: u16, left: usize) -> io::Result<()> {
+        match self.nodes.get(i) {
+            Node::Number(1) => Ok(()),
+            _ => self.within(word, i, b"", left),
+        }
+    }
+
+    #[cycle(printing)]
+    fn query(&mut self, i: u16, left: usize) -> io::Result<()> {
+        match self.nodes.get(i) {
+            Node::Query(q) if left > 0 => self.question(q, left - 1),
+            _ => Ok(()),
+        }
+    }
+
+    #[cycle(printing)]
+    fn question(&mut self, q: Question, left: usize) -> io::Result<()> {
+        self.say(b"select ")?;
+        if q.distinct {
+            self.say(b"distinct ")?;
+        }
+        self.list(b"", q.out, left)?;
+        self.list(b" from ", q.from, left)?;
+        self.condition(b" where ", q.wanted, left)?;
+        if let Some(groups) = q.groups {
+            self.list(b" group by ", groups, left)?;
+            self.condition(b" having ", q.having, left)?;
+        }
+        if let Some(keys) = q.keys {
+            self.list(b" order by ", keys, left)?;
+        }
+        match q.limit {
+            Some(limit) => self.limit(limit),
+            None => Ok(()),
+        }
+    }
+
+    fn limit(&mut self, i: u16) -> io::Result<()> {
+        let Node::Limit(most, skip) = self.nodes.get(i) else {
+            return Ok(());
+        };
+        self.say(b" limit ")?;
+        self.number(most)?;
+        if skip > 0 {
+            self.say(b" offset ")?;
+            self.number(skip)?;
+        }
+        Ok(())
+    }
+
+    // A word, and a name after it.
+    fn named(&mut self, word: &[u8], of: Span) -> io::Result<()> {
+        self.say(word)?;
+        self.name(of)
+    }
+
+    // A list in brackets.
+    fn bracketed(&mut self, first: u16) -> io::Result<()> {
+        self.list(b" (", first, 8200)?;
+        self.say(b")")
+    }
+
+    pub fn print(&mut self, statement: Statement) -> io::Result<()> {
+        match statement {
+            Statement::CreateTable(table, cols) => {
+                self.named(b"create table ", table)?;
+                self.bracketed(cols)
+            }
+            Statement::DropTable(table) => self.named(b"drop table ", table),
+            Statement::CreateIndex(unique, of, table, cols) => {
+                self.say(if unique { b"create unique" } else { b"create" })?;
+                self.named(b" index ", of)?;
+                self.named(b" on ", table)?;
+                self.bracketed(cols)
+            }
+            Statement::DropIndex(of) => self.named(b"drop index ", of),
+            Statement::Insert(table, rows) => {
+                self.named(b"insert into ", table)?;
+                self.list(b" values ", rows, 8200)
+            }
+            Statement::InsertFrom(table, q) => {
+                self.named(b"insert into ", table)?;
+                self.say(b" ")?;
+                self.query(q, 8200)
+            }
+            Statement::Update(table, sets, wanted) => {
+                self.named(b"update ", table)?;
+                self.list(b" set ", sets, 8200)?;
+                self.condition(b" where ", wanted, 8200)
+            }
+            Statement::Delete(table, wanted) => {
+                self.named(b"delete from ", table)?;
+                self.condition(b" where ", wanted, 8200)
+            }
+            Statement::Select(q) => self.query(q, 8200),
+            Statement::Begin => self.say(b"begin"),
+            Statement::Commit => self.say(b"commit"),
+            Statement::Rollback => self.say(b"rollback"),
+            Statement::Savepoint(of) => self.named(b"savepoint ", of),
+            Statement::RollbackTo(of) => self.named(b"rollback to ", of),
+            Statement::Release(of) => self.named(b"release ", of),
+        }
     }
 }
