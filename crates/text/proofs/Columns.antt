@@ -2,16 +2,21 @@
 use Rattle.std.proofs.Common.{◌≡◌, ℕ, ◌≤◌, Bool, true, false, cond, List, [], ◌∷◌, length, Some, None, Option, sym, refl, ap, ◌∙◌, inl, inr, arith}
 use Rattle.meaning.specs.Tree.{Name, Col, Statement}
 use Rattle.meaning.specs.Text.{Token, k_not, k_null, k_int, k_text}
-use Rattle.grammar.specs.Reader.{Got, refuses, gets, and_then, choose, past, is_word, must, a_col, a_name}
+use Rattle.grammar.specs.Reader.{Got, refuses, gets, and_then, choose, past, is_word, must, a_col, a_name, named}
 use Rattle.grammar.proofs.Tools.{then_is, then-refused, choose-inv, past_word, gets-inv}
-use Rattle.text.specs.Cut.{tokens_at, tokens_of}
+use Rattle.text.specs.Cut.{tokens_at, tokens_of, name}
 use Rattle.text.specs.declared.tokens.Tok.{Tok}
 use Rattle.text.specs.declared.tokens.Tok.TheVariants as tok
 use Rattle.text.specs.declared.tokens.Place.{Place}
-use Rattle.text.specs.Stands.{filled}
-use Rattle.text.specs.Found.{kind_of, Says, Names}
+use Rattle.text.specs.Stands.{filled, StandsName, StandsFor, Alone}
+use Rattle.text.specs.declared.nodes.Span.{Span}
+use Rattle.text.specs.declared.nodes.Node.{Node}
+use Rattle.text.proofs.Stood.{grown-none}
+use Rattle.text.proofs.Steps.{name-length}
+use Rattle.text.specs.Found.{kind_of, Says, Names, NamedBy, NameTaken, ReadsItem}
 use Rattle.text.specs.declared.nodes.Nodes.{Nodes}
-use Rattle.text.specs.declared.parts.Said.{Said}
+use Rattle.text.specs.declared.parts.Parsed.{Parsed}
+use Rattle.text.specs.declared.nodes.Statement as stated
 
 -- a column
 abbrev pub made : Name → Bool → Bool → Col
@@ -56,11 +61,11 @@ must-length ts us d h = elim (choose-inv (is_word k_not) (past (is_word k_null) 
 ]
 
 -- a statement without nodes is one with any
-pub names-says : (b : List ℕ) (u : Nodes) (g h : Got Statement) (r : Option Said) → g ≡ h → Names b g r → Says b u h r
+pub names-says : (b : List ℕ) (u : Nodes) (g h : Got Statement) (r : Option (Parsed stated.Statement)) → g ≡ h → Names b g r → Says b u h r
 names-says b u g h None e n = sym e ∙ n
 names-says b u g h (Some s) e n = (n.0, sym e ∙ n.1, n.2 (filled u))
 
-pub says_same : (b : List ℕ) (u : Nodes) (g h : Got Statement) (r : Option Said) → g ≡ h → Says b u g r → Says b u h r
+pub says_same : (b : List ℕ) (u : Nodes) (g h : Got Statement) (r : Option (Parsed stated.Statement)) → g ≡ h → Says b u g r → Says b u h r
 says_same b u g h None e n = sym e ∙ n
 says_same b u g h (Some s) e n = (n.0, sym e ∙ n.1, n.2)
 
@@ -75,3 +80,17 @@ unended b (tok.Quoted p) r h e = let z : ◌≡◌ {A = ℕ} 0 1 = cc in omega a
 unended b (tok.Sign p) r h e = let z : ◌≡◌ {A = ℕ} 0 1 = cc in omega arith
 unended b tok.Wrong r h e = let z : ◌≡◌ {A = ℕ} 0 1 = cc in omega arith
 unended b tok.End r h e = h refl
+
+-- a name as an item
+pub name-item : (b : List ℕ) (t : Nodes) (ts : List Token) (r : Option (Parsed Span)) → NameTaken b ts r → ReadsItem (StandsName b) Alone b t t ts (a_name ts) r
+name-item b t ts None h = h
+name-item b t ts (Some p) h = record { it = name b p.value; is = h; stands = λ h up. refl; says = tt; within = λ n l. tt; grown = grown-none (filled t); few = omega (arith, name-length ts (tokens_at b p.after) _ h) }
+
+-- a statement of a name
+pub name-said : (b : List ℕ) (P : Span → stated.Statement → Type 0) (st : Name → Statement) → ((x : Span) (s : stated.Statement) → P x s → (f : List Node) → StandsFor b f (st (name b x)) s) → (ts : List Token) (r : Option (Parsed stated.Statement)) → NamedBy P b ts r → Names b (named st ts) r
+name-said b P st says ts None h = then-refused (a_name ts) _ h
+name-said b P st says ts (Some p) h = (st (name b h.0), then_is _ h.1 refl, says h.0 p.value h.2)
+
+pub names_same : (b : List ℕ) (g h : Got Statement) (r : Option (Parsed stated.Statement)) → g ≡ h → Names b g r → Names b h r
+names_same b g h None e n = sym e ∙ n
+names_same b g h (Some s) e n = (n.0, sym e ∙ n.1, n.2)

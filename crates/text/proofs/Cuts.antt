@@ -1,11 +1,12 @@
 -- What the automaton gives over a run of bytes. Assumes nothing.
-use Rattle.std.proofs.Common.{◌≡◌, ℕ, zero, suc, ◌+◌, ◌*◌, ◌<◌, ◌≤◌, Bool, true, false, cond, ◌||◌, eqb, ltb, List, [], ◌∷◌, ◌++◌, map, length, get_or, take, drop, sym, refl, ap, ◌∙◌, append_assoc, append-nil, add-zero, add_assoc, zero-add, arith, length-drop, get_or-drop, drop-drop}
+use Rattle.std.proofs.Common.{◌≡◌, ℕ, zero, suc, ◌+◌, ◌*◌, ◌<◌, ◌≤◌, Bool, true, false, cond, ◌||◌, eqb, ltb, List, [], ◌∷◌, ◌++◌, map, length, get_or, take, drop, sym, refl, ap, subst, ◌∙◌, append_assoc, append-nil, add-zero, add_assoc, zero-add, arith, length-drop, get_or-drop, drop-drop}
 use Rattle.std.proofs.lemmas.List.{get_or_past, take_more, drop_more, drop_all}
 use Rattle.std.proofs.lemmas.Bool.Decides.{nat_tests}
 use Rattle.std.proofs.lemmas.Bool.{or_left, or_from, lt-ltb, ne_eqb, ltb-true, ltb-false}
 use Rattle.meaning.specs.Text.{Word, Number, Quoted, Sign, Wrong, Mode, Between, InWord, InNumber, InQuotes, AfterQuote, AfterLess, AfterMore, AfterBar, tokens, emits, after, ends, enters, gives, small, less_by, letter, digit, is_in, signs, spaces, at_most_sign, differs_sign, joined_sign, at_least_sign}
 use Rattle.grammar.proofs.Tools.{clash}
-use Rattle.text.specs.Cut.{Run, decimal, undoubled, in_word, space}
+use Rattle.text.specs.declared.tokens.Tok.{Tok}
+use Rattle.text.specs.Cut.{Run, RunBy, tokens_of, decimal, undoubled, in_word, space}
 
 pub run_more : (p : ℕ → Bool) (b : ℕ) (bs : List ℕ) (n : ℕ) → Run p (b ∷ bs) (suc n) → Run p bs n
 run_more p b bs n r = record { within = omega (arith, r.within); all = λ k l. r.all (suc k) (omega arith); stops = λ l. r.stops (omega arith) }
@@ -241,6 +242,10 @@ quoting-end s n q l a h =
     q.same ∙ ap (tokens (InQuotes (undoubled false (take n s)))) (drop_more s n 0 l ∙ ap (λ b. b ∷ drop (n + 1) s) a)
     ∙ end-quote _ (drop (n + 1) s) (λ k e. h (omega (arith, length-drop (n + 1) s)) (ap (λ i. get_or s i 0) (sym (add-zero (n + 1))) ∙ sym (get_or-drop (n + 1) s 0 0) ∙ e))
 
+-- a run by a test's calls is a run by the test
+pub run_is : (p : ℕ → Bool) (P : ℕ → Bool → Type 0) (bs ds : List ℕ) (n : ℕ) → ((b : ℕ) (r : Bool) → P b r → r ≡ p b) → bs ≡ ds → RunBy P bs n → Run p ds n
+run_is p P bs ds n h e r = subst (λ v. Run p v n) e (record { within = r.within; all = λ k l. sym (h _ _ (r.all k l)); stops = λ l. sym (h _ _ (r.stops l)) })
+
 -- a text from a place on
 from_at : (s : List ℕ) (a : ℕ) → a < length s → drop a s ≡ get_or s a 0 ∷ drop (a + 1) s
 from_at s a l = drop_more s a 0 l
@@ -279,8 +284,8 @@ module _ (s : List ℕ) (a : ℕ) (l : a < length s) where
           go true e = ltb-true i (length s) e
           go false e = clash (sym (ap letter (get_or_past s i 0 (ltb-false i (length s) e))) ∙ h)
 
-  pub sign-cut : is_in (get_or s a 0) signs ≡ true → Sign (get_or s a 0) ∷ tokens Between (drop (a + 1) s) ≡ tokens Between (drop a s)
-  sign-cut h = sym (ap (tokens Between) (from_at s a l) ∙ sign-begins (get_or s a 0) (drop (a + 1) s) h)
+  pub sign-cut : (b : ℕ) → is_in b signs ≡ true → get_or s a 0 ≡ b → Sign b ∷ tokens Between (drop (a + 1) s) ≡ tokens Between (drop a s)
+  sign-cut b h e = sym (ap (tokens Between) (from_at s a l ∙ ap (λ b. b ∷ drop (a + 1) s) e) ∙ sign-begins b (drop (a + 1) s) h)
 
   pub wrong-cut : Lone (get_or s a 0) → is_in (get_or s a 0) signs ≡ false → space (get_or s a 0) ≡ false → Wrong ∷ tokens Between (drop (a + 1) s) ≡ tokens Between (drop a s)
   wrong-cut h m n = sym (ap (tokens Between) (from_at s a l) ∙ wrong-begins (get_or s a 0) (drop (a + 1) s) h m n)
@@ -329,3 +334,7 @@ module _ (s : List ℕ) (a : ℕ) (l : a < length s) where
 pub nil-cut : (s : List ℕ) (a : ℕ) → length s ≤ a → [] ≡ tokens Between (drop a s)
 unfolding tokens ends
 nil-cut s a l = sym (ap (tokens Between) (drop_all a s l))
+
+-- a token and its length, matched
+pub matched : (s : List ℕ) (a : ℕ) (r : Tok × ℕ) (t : Tok) (n : ℕ) → r ≡ (t, n) → tokens_of s t (a + n) ≡ tokens Between (drop a s) → tokens_of s r.0 (a + r.1) ≡ tokens Between (drop a s)
+matched s a r t n e h = ap (λ r. tokens_of s r.0 (a + r.1)) e ∙ h

@@ -4,5 +4,6 @@ pub mod Takes
 pub mod Stood
 pub mod Steps
 pub mod Turns
-pub mod Lists
+pub mod Listed
 pub mod Columns
+pub mod Chain

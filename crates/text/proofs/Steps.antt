@@ -1,5 +1,5 @@
 -- The steps that the parts of the reader share. Assumes nothing.
-use Rattle.std.proofs.Common.{◌≡◌, ℕ, zero, suc, ◌+◌, ◌-◌, ◌*◌, ◌≤◌, Bool, true, false, cond, ltb, List, [], ◌∷◌, length, drop, pos, Some, None, Option, sym, refl, ap, ◌∙◌, inl, inr, sub-one, arith}
+use Rattle.std.proofs.Common.{◌≡◌, ℕ, zero, suc, ◌+◌, ◌-◌, ◌*◌, ◌<◌, ◌≤◌, Bool, true, false, cond, ltb, List, [], ◌∷◌, length, drop, pos, Some, None, Option, sym, refl, ap, ◌∙◌, inl, inr, sub-one, arith}
 use Rattle.std.proofs.lemmas.Bool.{lt-ltb}
 use Rattle.meaning.specs.Value as value
 use Rattle.meaning.specs.Value.{Num}
@@ -12,14 +12,15 @@ use Rattle.grammar.proofs.Tools.{never, clash, T_true, sign-is, name-inv, number
 use Rattle.grammar.proofs.Sound.{listed-inv}
 use Rattle.text.specs.Cut.{tokens_at, tokens_of, part, name, undoubled, decimal}
 use Rattle.text.specs.Stands.{filled, At, Over, Stands}
-use Rattle.text.specs.Found.{Ready, Grown, Read, Answer, Taken, Pushed, ReadsExpr, ReadsCondition, StandsPart, SaysPart}
+use Rattle.text.specs.Found.{Grown, Read, Answer, Pushed, StandsPart, SaysPart, PartWithin}
 use Rattle.text.specs.declared.nodes.Node.{Node}
 use Rattle.text.specs.declared.nodes.Nodes.{Nodes}
 use Rattle.text.specs.declared.nodes.Span.{Span}
 use Rattle.text.specs.declared.tokens.Tok.{Tok}
 use Rattle.text.specs.declared.tokens.Tok.TheVariants as tok
 use Rattle.text.specs.declared.tokens.Place.{Place}
-use Rattle.text.specs.declared.parts.Part.{Part}
+use Rattle.text.specs.declared.parts.Parsed.{Parsed}
+use Rattle.text.specs.declared.parts.Operand.{Operand}
 use Rattle.text.proofs.Stood.{grown-length, grown-on, pushed}
 
 -- one token less
@@ -33,36 +34,22 @@ name-length ts us n h = omega (arith, ap length (name-inv ts h).0)
 pub number-length : (ts us : List Token) (n : ℕ) → a_number ts ≡ gets n us → length ts ≡ length us + 1
 number-length ts us n h = omega (arith, ap length (number-inv ts h).0)
 
--- there is still room
-pub ready_on : (b : List ℕ) (t u : Nodes) (at to : Place) → Ready b t at → Grown (filled t) (filled u) → length (filled u) + 2 * length (tokens_at b to) ≤ length (filled t) + 2 * length (tokens_at b at) → Ready b u to
-ready_on b t u at to r up l = record { short = r.short; room = omega (arith, r.room, l); begun = omega (arith, r.begun, grown-length (filled t) (filled u) up) }
-
-pub ready-same : (b : List ℕ) (t : Nodes) (at to : Place) → Ready b t at → length (tokens_at b to) ≤ length (tokens_at b at) → Ready b t to
-ready-same b t at to r l = record { short = r.short; room = omega (arith, r.room, l); begun = r.begun }
-
-pub ready-taken : (p : Token → Bool) (b : List ℕ) (t : Nodes) (at to : Place) → Ready b t at → Taken p b (tokens_at b at) (Some to) → Ready b t to
-ready-taken p b t at to r h = ready-same b t at to r (omega (arith, taken-length p (tokens_at b at) (tokens_at b to) h.0 h.1))
-
 -- the answer of a part, from more tokens
-pub lifted : {A : Type 0} (S : List Node → A → ℕ → Type 0) (F : A → Part → Type 0) (n m : ℕ) (b : List ℕ) (t u : Nodes) (ts us : List Token) (g h : Got A) (r : Option Part) → g ≡ h → m + 2 * length ts ≤ n + 2 * length us → Answer S F n b t u ts g r → Answer S F m b t u us h r
-lifted S F n m b t u ts us g h None e l a = sym e ∙ a
-lifted S F n m b t u ts us g h (Some p) e l a = record { it = a.it; is = sym e ∙ a.is; stands = a.stands; says = a.says; within = a.within; grown = a.grown; few = omega (arith, a.few) }
-
-pub as-condition : (b : List ℕ) (t u : Nodes) (ts us : List Token) (g h : Got Expr) (r : Option Part) → g ≡ h → length ts ≤ length us → ReadsExpr b t u ts g r → ReadsCondition b t u us h r
-as-condition b t u ts us g h None e l a = sym e ∙ a
-as-condition b t u ts us g h (Some p) e l a = record { it = a.it; is = sym e ∙ a.is; stands = a.stands; says = tt; within = a.within; grown = a.grown; few = omega (arith, a.few) }
+pub lifted : {A V : Type 0} (S : List Node → A → V → Type 0) (F : A → V → Type 0) (W : V → ℕ → Type 0) (n m : ℕ) (b : List ℕ) (t u : Nodes) (ts us : List Token) (g h : Got A) (r : Option (Parsed V)) → g ≡ h → m + 2 * length ts ≤ n + 2 * length us → Answer S F W n b t u ts g r → Answer S F W m b t u us h r
+lifted S F W n m b t u ts us g h None e l a = sym e ∙ a
+lifted S F W n m b t u ts us g h (Some p) e l a = record { it = a.it; is = sym e ∙ a.is; stands = a.stands; says = a.says; within = a.within; grown = a.grown; few = omega (arith, a.few) }
 
 -- a new node over something that was read
-pub over : {A : Type 0} (S : List Node → A → ℕ → Type 0) (F : A → Part → Type 0) (keeps : (a : A) (f h : List Node) → Grown f h → (i : ℕ) → S f a i → S h a i) (mk : A → Expr) (kd : ℕ → Node) (b : List ℕ) →
-    ((f : List Node) (a : A) (i : ℕ) → Over f i kd (S f a) → Stands b f (mk a) i) → (t u v : Nodes) (ts us : List Token) (g : Got A) (p q : Part) (lvl m : ℕ) (h : Got reader.Part) →
-    (r : Read S F 2 b t u ts g p) → Pushed u v (kd p.node) q.node → q.aggregates ≡ aggregates (mk r.it) → q.level ≡ lvl → h ≡ gets (reader.part lvl (mk r.it)) (tokens_at b q.after) →
-    2 * length (tokens_at b q.after) + m + 2 * length ts ≤ 2 * length (tokens_at b p.after) + 2 * length us + 1 → Read (StandsPart b) SaysPart m b t v us h q
-over S F keeps mk kd b stands t u v ts us g p q lvl m h r push agg level is l =
-    let n = pushed u v (kd p.node) q.node push in
+pub over : {A V : Type 0} (S : List Node → A → ℕ → Type 0) (F : A → V → Type 0) (at : V → ℕ) (keeps : (a : A) (f h : List Node) → Grown f h → (i : ℕ) → S f a i → S h a i) (mk : A → Expr) (kd : ℕ → Node) (b : List ℕ) →
+    ((f : List Node) (a : A) (i : ℕ) → Over f i kd (S f a) → Stands b f (mk a) i) → (t u v : Nodes) (ts us : List Token) (g : Got A) (p : Parsed V) (q : Parsed Operand) (lvl m : ℕ) (h : Got reader.Part) →
+    (r : Read (λ f a x. S f a (at x)) F (λ x n. at x < n) 2 b t u ts g p) → Pushed u v (kd (at p.value)) q.value.it.node → q.value.it.aggregates ≡ aggregates (mk r.it) → q.value.level ≡ lvl → h ≡ gets (reader.part lvl (mk r.it)) (tokens_at b q.after) →
+    2 * length (tokens_at b q.after) + m + 2 * length ts ≤ 2 * length (tokens_at b p.after) + 2 * length us + 1 → Read (StandsPart b) SaysPart PartWithin m b t v us h q
+over S F at keeps mk kd b stands t u v ts us g p q lvl m h r push agg level is l =
+    let n = pushed u v (kd (at p.value)) q.value.it.node push in
     record {
       it = reader.part lvl (mk r.it);
       is = is;
-      stands = stands (filled v) r.it q.node (p.node, n.at, omega (arith, n.last, r.within), keeps r.it (filled u) (filled v) n.grown p.node r.stands);
+      stands = stands (filled v) r.it q.value.it.node (at p.value, n.at, omega (arith, n.last, r.within), keeps r.it (filled u) (filled v) n.grown (at p.value) r.stands);
       says = (agg, level);
       within = n.within;
       grown = grown-on (filled t) (filled u) (filled v) r.grown n.grown;
@@ -70,11 +57,11 @@ over S F keeps mk kd b stands t u v ts us g p q lvl m h r push agg level is l =
     }
 
 -- a leaf
-pub leaf-read : (b : List ℕ) (t u : Nodes) (us : List Token) (k : Node) (e : Expr) (q : Part) (m : ℕ) (h : Got reader.Part) → Pushed t u k q.node → ((f : List Node) (i : ℕ) → At f i k → Stands b f e i) → q.aggregates ≡ aggregates e → q.level ≡ 7 → h ≡ gets (reader.part 7 e) (tokens_at b q.after) →
-    2 * length (tokens_at b q.after) + m ≤ 2 * length us → Read (StandsPart b) SaysPart m b t u us h q
+pub leaf-read : (b : List ℕ) (t u : Nodes) (us : List Token) (k : Node) (e : Expr) (q : Parsed Operand) (m : ℕ) (h : Got reader.Part) → Pushed t u k q.value.it.node → ((f : List Node) (i : ℕ) → At f i k → Stands b f e i) → q.value.it.aggregates ≡ aggregates e → q.value.level ≡ 7 → h ≡ gets (reader.part 7 e) (tokens_at b q.after) →
+    2 * length (tokens_at b q.after) + m ≤ 2 * length us → Read (StandsPart b) SaysPart PartWithin m b t u us h q
 leaf-read b t u us k e q m h push stands agg level is l =
-    let n = pushed t u k q.node push in
-    record { it = reader.part 7 e; is = is; stands = stands (filled u) q.node n.at; says = (agg, level); within = n.within; grown = n.grown; few = omega (arith, n.more) }
+    let n = pushed t u k q.value.it.node push in
+    record { it = reader.part 7 e; is = is; stands = stands (filled u) q.value.it.node n.at; says = (agg, level); within = n.within; grown = n.grown; few = omega (arith, n.more) }
 
 -- one call
 pub expr-none : (f k : ℕ) (ts : List Token) → f ≡ 0 → reader.expr f k ts ≡ refuses
@@ -82,40 +69,36 @@ unfolding reader.expr
 expr-none zero k ts h = refl
 expr-none (suc f) k ts h = absurd (omega arith)
 
-pub expr-step : (f k : ℕ) (ts : List Token) → (f ≡ 0 → ⊥) → reader.expr f k ts ≡ and_then (reader.operand (reader.expr (f - 1)) (reader.exprs (f - 1)) (reader.keys (f - 1)) (f - 1) k ts) (reader.more (f - 1) k)
+pub expr-step : (f g k : ℕ) (ts : List Token) → f ≡ suc g → reader.expr f k ts ≡ and_then (reader.operand (reader.expr g) (reader.exprs g) (reader.keys g) g k ts) (reader.more g k)
 unfolding reader.expr
-expr-step zero k ts l = absurd (l refl)
-expr-step (suc f) k ts l = ap (λ f. and_then (reader.operand (reader.expr f) (reader.exprs f) (reader.keys f) f k ts) (reader.more f k)) (sym (sub-one (suc f)))
+expr-step f g k ts e = ap (λ f. reader.expr f k ts) e
 
 pub exprs-none : (f : ℕ) (ts : List Token) → f ≡ 0 → reader.exprs f ts ≡ refuses
 unfolding reader.expr
 exprs-none zero ts h = refl
 exprs-none (suc f) ts h = absurd (omega arith)
 
-pub exprs-step : (f : ℕ) (ts : List Token) → (f ≡ 0 → ⊥) → reader.exprs f ts ≡ reader.listed (reader.expr (f - 1) 0) (reader.exprs (f - 1)) ts
+pub exprs-step : (f g : ℕ) (ts : List Token) → f ≡ suc g → reader.exprs f ts ≡ reader.listed (reader.expr g 0) (reader.exprs g) ts
 unfolding reader.expr
-exprs-step zero ts l = absurd (l refl)
-exprs-step (suc f) ts l = ap (λ f. reader.listed (reader.expr f 0) (reader.exprs f) ts) (sym (sub-one (suc f)))
+exprs-step f g ts e = ap (λ f. reader.exprs f ts) e
 
 pub keys_none : (f : ℕ) (ts : List Token) → f ≡ 0 → reader.keys f ts ≡ refuses
 unfolding reader.expr
 keys_none zero ts h = refl
 keys_none (suc f) ts h = absurd (omega arith)
 
-pub keys_step : (f : ℕ) (ts : List Token) → (f ≡ 0 → ⊥) → reader.keys f ts ≡ reader.listed (reader.a_key (reader.expr (f - 1) 0)) (reader.keys (f - 1)) ts
+pub keys_step : (f g : ℕ) (ts : List Token) → f ≡ suc g → reader.keys f ts ≡ reader.listed (reader.a_key (reader.expr g 0)) (reader.keys g) ts
 unfolding reader.expr
-keys_step zero ts l = absurd (l refl)
-keys_step (suc f) ts l = ap (λ f. reader.listed (reader.a_key (reader.expr f 0)) (reader.keys f) ts) (sym (sub-one (suc f)))
+keys_step f g ts e = ap (λ f. reader.keys f ts) e
 
 pub list-none : {A : Type 0} (item : Reader A) (f : ℕ) (ts : List Token) → f ≡ 0 → reader.list_of item f ts ≡ refuses
 unfolding reader.list_of
 list-none item zero ts h = refl
 list-none item (suc f) ts h = absurd (omega arith)
 
-pub list-step : {A : Type 0} (item : Reader A) (f : ℕ) (ts : List Token) → (f ≡ 0 → ⊥) → reader.list_of item f ts ≡ reader.listed item (reader.list_of item (f - 1)) ts
+pub list-step : {A : Type 0} (item : Reader A) (f g : ℕ) (ts : List Token) → f ≡ suc g → reader.list_of item f ts ≡ reader.listed item (reader.list_of item g) ts
 unfolding reader.list_of
-list-step item zero ts l = absurd (l refl)
-list-step item (suc f) ts l = ap (λ f. reader.listed item (reader.list_of item f) ts) (sym (sub-one (suc f)))
+list-step item f g ts e = ap (λ f. reader.list_of item f ts) e
 
 -- the parts of a list
 pub listed-refused : {A : Type 0} (item : Reader A) (rest : Reader (List A)) (ts : List Token) → item ts ≡ refuses → reader.listed item rest ts ≡ refuses

@@ -1,11 +1,14 @@
 -- Nodes that are pushed keep what the others stand for. Assumes nothing.
-use Rattle.std.proofs.Common.{◌≡◌, ℕ, zero, suc, ◌+◌, ◌<◌, ◌≤◌, Bool, true, false, ◌||◌, List, [], ◌∷◌, ◌++◌, length, get_or, take, pos, negsuc, Some, sym, refl, ap, ◌∙◌, append_assoc, append-nil, arith, length-append}
+use Rattle.std.proofs.Common.{◌≡◌, ℕ, ◌+◌, ◌<◌, ◌≤◌, Bool, true, false, ◌||◌, List, [], ◌∷◌, ◌++◌, length, get_or, pos, negsuc, Some, None, Option, slice_get, sym, refl, ap, ◌∙◌, append_assoc, append-nil, arith, length-append}
+use Rattle.std.proofs.Math.ListN.{get_or-append}
+use Rattle.std.proofs.Math.Seq.{get_or-append_seam}
+use Rattle.std.proofs.lemmas.Option.{slice_get_within, slice_get-get_or, get_or_from_slice_get}
 use Rattle.std.proofs.lemmas.List.{length_push}
 use Rattle.meaning.specs.Value as value
 use Rattle.meaning.specs.Value.{Value}
 use Rattle.meaning.specs.Tree as tree
 use Rattle.meaning.specs.Tree.{Source, Limit, Expr, Exprs, Keys, Query, query, Col, Set, Name, aggregates}
-use Rattle.text.specs.Stands.{filled, find, At, Pair, Stands, StandsExprs, StandsKeys, StandsQuery, StandsSources, StandsLimit, Literal, StandsCols, StandsNames, StandsRows, StandsSets}
+use Rattle.text.specs.Stands.{filled, At, Pair, Under, Stands, StandsExprs, StandsKeys, StandsQuery, StandsSources, StandsLimit, Literal}
 use Rattle.text.specs.Found.{Grown, Pushed, makes}
 use Rattle.text.specs.declared.nodes.Node.{Node}
 use Rattle.text.specs.declared.nodes.Node.TheVariants as node
@@ -14,28 +17,26 @@ use Rattle.text.specs.declared.nodes.Nodes.{Nodes}
 use Rattle.text.specs.declared.words.Infix.{Infix}
 use Rattle.text.specs.declared.words.Infix.TheVariants as ix
 
-find-append : {A : Type 0} (xs ys : List A) (i : ℕ) {x : A} → find xs i ≡ Some x → find (xs ++ ys) i ≡ Some x
-unfolding find
-find-append [] ys i {x} h = let z : ◌≡◌ {A = ℕ} 0 1 = cc in absurd (omega arith)
-find-append (y ∷ xs) ys zero h = h
-find-append (y ∷ xs) ys (suc i) h = find-append xs ys i h
+get-append : {A : Type 0} (xs ys : List A) (i : ℕ) {x : A} → slice_get xs i ≡ Some x → slice_get (xs ++ ys) i ≡ Some x
+get-append xs ys i {x} h =
+    let l = slice_get_within xs i x h in
+    slice_get-get_or (xs ++ ys) i x (omega (arith, l, length-append xs ys)) ∙ ap Some (get_or-append xs ys x i l ∙ get_or_from_slice_get xs i x x h)
 
-find-push : {A : Type 0} (xs : List A) (x : A) → find (xs ++ x ∷ []) (length xs) ≡ Some x
-unfolding find
-find-push [] x = refl
-find-push (y ∷ xs) x = find-push xs x
+get-push : {A : Type 0} (xs : List A) (x : A) → slice_get (xs ++ x ∷ []) (length xs) ≡ Some x
+get-push xs x = slice_get-get_or (xs ++ x ∷ []) (length xs) x (omega (arith, length_push xs x)) ∙ ap Some (get_or-append_seam xs x [] x)
 
 module _ (f h : List Node) (up : Grown f h) where
-  at-kept : (i : ℕ) (k : Node) → At f i k → At h i k
-  at-kept i k e = ap (λ v. find v i) up.1 ∙ find-append f up.0 i e
+  pub at-kept : (i : ℕ) (k : Node) → At f i k → At h i k
+  at-kept i k e = ap (λ v. slice_get v i) up.1 ∙ get-append f up.0 i e
 
-pub sources-kept : (b : List ℕ) (ss : List Source) (f h : List Node) → Grown f h → (i : ℕ) → StandsSources b f ss i → StandsSources b h ss i
-sources-kept b [] f h up i s = s
-sources-kept b (x ∷ ss) f h up i s = (s.0, s.1, s.2, at-kept f h up i _ s.3, s.4, s.5, s.6, sources-kept b ss f h up _ s.7)
+-- a list of tables keeps what it stands for
+pub sources-kept : (b : List ℕ) (ss : List Source) (f h : List Node) → Grown f h → (o : Option ℕ) → StandsSources b f ss o → StandsSources b h ss o
+sources-kept b [] f h up o s = s
+sources-kept b (x ∷ ss) f h up o s = (s.0, s.1, s.2, s.3, at-kept f h up _ _ s.4, s.5, s.6, s.7, sources-kept b ss f h up _ s.8)
 
-pub limit-kept : (l : Limit) (f h : List Node) → Grown f h → (i : ℕ) → StandsLimit f l i → StandsLimit h l i
-limit-kept tree.all f h up i s = s
-limit-kept (tree.up_to m k) f h up i s = at-kept f h up i _ s
+pub limit-kept : (l : Limit) (f h : List Node) → Grown f h → (o : Option ℕ) → StandsLimit f l o → StandsLimit h l o
+limit-kept tree.all f h up o s = s
+limit-kept (tree.up_to m k) f h up o s = (s.0, s.1, at-kept f h up _ _ s.2)
 
 literal-kept : (b : List ℕ) (v : Value) (f h : List Node) → Grown f h → (i : ℕ) → Literal b f v i → Literal b h v i
 literal-kept b value.Null f h up i s = at-kept f h up i _ s
@@ -64,16 +65,20 @@ mutual
   kept b (tree.exists q) f h up i s = (s.0, at-kept f h up i _ s.1, s.2, query-kept b q f h up _ s.3)
   kept b (tree.scalar q) f h up i s = (s.0, at-kept f h up i _ s.1, s.2, query-kept b q f h up _ s.3)
 
-  pub exprs-kept : (b : List ℕ) (es : Exprs) (f h : List Node) → Grown f h → (i : ℕ) → StandsExprs b f es i → StandsExprs b h es i
-  exprs-kept b tree.none f h up i s = s
-  exprs-kept b (tree.more e es) f h up i s = (s.0, s.1, at-kept f h up i _ s.2, s.3, s.4, kept b e f h up _ s.5, exprs-kept b es f h up _ s.6)
+  pub exprs-kept : (b : List ℕ) (es : Exprs) (f h : List Node) → Grown f h → (o : Option ℕ) → StandsExprs b f es o → StandsExprs b h es o
+  exprs-kept b tree.none f h up o s = s
+  exprs-kept b (tree.more e es) f h up o s = (s.0, s.1, s.2, s.3, at-kept f h up _ _ s.4, s.5, s.6, kept b e f h up _ s.7, exprs-kept b es f h up _ s.8)
 
-  pub keys_kept : (b : List ℕ) (es : Keys) (f h : List Node) → Grown f h → (i : ℕ) → StandsKeys b f es i → StandsKeys b h es i
-  keys_kept b tree.unsorted f h up i s = s
-  keys_kept b (tree.key e d es) f h up i s = (s.0, s.1, at-kept f h up i _ s.2, s.3, s.4, kept b e f h up _ s.5, keys_kept b es f h up _ s.6)
+  pub keys_kept : (b : List ℕ) (es : Keys) (f h : List Node) → Grown f h → (o : Option ℕ) → StandsKeys b f es o → StandsKeys b h es o
+  keys_kept b tree.unsorted f h up o s = s
+  keys_kept b (tree.key e d es) f h up o s = (s.0, s.1, s.2, s.3, at-kept f h up _ _ s.4, s.5, s.6, kept b e f h up _ s.7, keys_kept b es f h up _ s.8)
 
   pub query-kept : (b : List ℕ) (q : Query) (f h : List Node) → Grown f h → (i : ℕ) → StandsQuery b f q i → StandsQuery b h q i
   query-kept b (query d es from c g grp hv ks l) f h up i s = (s.0, at-kept f h up i _ s.1, s.2, s.3, s.4, exprs-kept b es f h up _ s.5, sources-kept b from f h up _ s.6, kept b c f h up _ s.7, exprs-kept b grp f h up _ s.8, kept b hv f h up _ s.9, keys_kept b ks f h up _ s.10, limit-kept l f h up _ s.11)
+
+pub under-on : (o : Option ℕ) (m n : ℕ) → m ≤ n → Under o m → Under o n
+under-on None m n l u = tt
+under-on (Some i) m n l u = omega (arith, u)
 
 pub grown-none : (f : List Node) → Grown f f
 grown-none f = ([], sym (append-nil f))
@@ -94,7 +99,7 @@ pub record New (f g : List Node) (k : Node) (i : ℕ) : Type 0 where
 pub pushed : (t u : Nodes) (k : Node) (i : ℕ) → Pushed t u k i → New (filled t) (filled u) k i
 pushed t u k i h =
     let long = ap length h.1 ∙ length_push (filled t) k in
-    record { at = (λ j. find (h.1 j) (h.0 j)) ∙ find-push (filled t) k; within = omega (arith, h.0); grown = (k ∷ [], h.1); last = h.0; more = omega arith }
+    record { at = (λ j. slice_get (h.1 j) (h.0 j)) ∙ get-push (filled t) k; within = omega (arith, h.0); grown = (k ∷ [], h.1); last = h.0; more = omega arith }
 
 -- a node over two others
 pub paired : (b : List ℕ) (f g : List Node) (o : Op) (x y : Expr) (j k i : ℕ) → New f g (node.Both o j k) i → Stands b f x j → Stands b f y k → j < length f → k < length f → Pair g i o (Stands b g x) (Stands b g y)
@@ -120,27 +125,3 @@ makes-aggregates ix.Plus x y = refl
 makes-aggregates ix.Minus x y = refl
 makes-aggregates ix.Concat x y = refl
 makes-aggregates ix.Times x y = refl
-
-pub cols-kept : (b : List ℕ) (cs : List Col) (f h : List Node) → Grown f h → (i : ℕ) → StandsCols b f cs i → StandsCols b h cs i
-cols-kept b [] f h up i s = s
-cols-kept b (x ∷ cs) f h up i s = (s.0, s.1, at-kept f h up i _ s.2, s.3, s.4, cols-kept b cs f h up _ s.5)
-
-pub names-kept : (b : List ℕ) (cs : List Name) (f h : List Node) → Grown f h → (i : ℕ) → StandsNames b f cs i → StandsNames b h cs i
-names-kept b [] f h up i s = s
-names-kept b (x ∷ cs) f h up i s = (s.0, s.1, at-kept f h up i _ s.2, s.3, s.4, names-kept b cs f h up _ s.5)
-
-pub rows-kept : (b : List ℕ) (rs : List Exprs) (f h : List Node) → Grown f h → (i : ℕ) → StandsRows b f rs i → StandsRows b h rs i
-rows-kept b [] f h up i s = s
-rows-kept b (x ∷ rs) f h up i s = (s.0, s.1, at-kept f h up i _ s.2, s.3, s.4, exprs-kept b x f h up _ s.5, rows-kept b rs f h up _ s.6)
-
-pub sets-kept : (b : List ℕ) (ss : List Set) (f h : List Node) → Grown f h → (i : ℕ) → StandsSets b f ss i → StandsSets b h ss i
-sets-kept b [] f h up i s = s
-sets-kept b (x ∷ ss) f h up i s = (s.0, s.1, (s.2.0, s.2.1, at-kept f h up i _ s.2.2, s.2.3, s.2.4, kept b x.to f h up _ s.2.5, sets-kept b ss f h up _ s.2.6))
-
--- the node that is read at an index is the one that stands there
-pub found : (xs : List Node) (n i : ℕ) (x : Node) → i < length (take n xs) → x ≡ get_or xs i x → find (take n xs) i ≡ Some x
-unfolding find
-found xs zero i x l e = absurd (omega arith)
-found [] (suc n) i x l e = absurd (omega arith)
-found (y ∷ xs) (suc n) zero x l e = ap Some (sym e)
-found (y ∷ xs) (suc n) (suc i) x l e = found xs n i x (omega arith) e

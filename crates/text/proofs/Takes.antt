@@ -1,5 +1,5 @@
 -- What the token at a place says of the tokens from there. Assumes nothing.
-use Rattle.std.proofs.Common.{◌≡◌, ℕ, zero, suc, ◌+◌, ◌-◌, ◌*◌, ◌<◌, ◌≤◌, Bool, true, false, cond, not, ltb, ◌⊎◌, List, [], ◌∷◌, map, length, get_or, drop, sym, refl, ap, ◌∙◌, inl, inr, arith}
+use Rattle.std.proofs.Common.{◌≡◌, ℕ, zero, suc, ◌+◌, ◌-◌, ◌*◌, ◌<◌, ◌≤◌, Bool, true, false, cond, not, ltb, ◌==◌, ◌⊎◌, List, [], ◌∷◌, map, length, get_or, drop, sym, refl, ap, ◌∙◌, inl, inr, arith}
 use Rattle.std.proofs.lemmas.Bool.{eq-eqb, ne_eqb, lt-ltb, le-ltb}
 use Rattle.std.proofs.lemmas.List.{at_drop_more, at_drop_all}
 use Rattle.meaning.specs.Text as text
@@ -8,9 +8,11 @@ use Rattle.meaning.specs.Meaning.{same_name, some}
 use Rattle.meaning.specs.Tree as tree
 use Rattle.grammar.specs.Reader.{refuses, gets, head_is, tail_of, ends, tests, joins, joint, joint_in, is_sign, is_word, a_name, a_number}
 use Rattle.grammar.proofs.Tools.{clash, word-is}
-use Rattle.text.specs.Cut.{tokens_of, tokens_at, decimal, name, part}
+use Rattle.text.specs.Cut.{tokens_of, tokens_at, number_of, decimal, name, part}
 use Rattle.text.specs.Found.{joint_of}
 use Rattle.text.specs.declared.nodes.Span.{Span}
+use Rattle.text.specs.declared.tokens.Sign.{Sign as Signs}
+use Rattle.text.specs.declared.tokens.Sign.TheVariants as sign
 use Rattle.text.specs.declared.tokens.Tok.{Tok}
 use Rattle.text.specs.declared.tokens.Tok.TheVariants.{Word, Number, Quoted, Sign, Wrong, End}
 use Rattle.text.specs.declared.tokens.Place.{Place}
@@ -20,17 +22,21 @@ module _ (b : List ℕ) (x : Place) where
   by-tok : {t : Tok} → x.tok ≡ t → tokens_at b x ≡ tokens_of b t x.rest
   by-tok e = ap (λ t. tokens_of b t x.rest) e
 
-  pub sign-taken : (d c : ℕ) (ts : List Token) → x.tok ≡ Sign c → c ≡ d → ts ≡ tokens Between (drop x.rest b) → (head_is (is_sign d) (tokens_at b x) ≡ true) × (ts ≡ tail_of (tokens_at b x))
-  unfolding is_sign
-  sign-taken d c ts e h k = (ap (head_is (is_sign d)) (by-tok e) ∙ eq-eqb c d h, k ∙ ap tail_of (sym (by-tok e)))
+  -- the tokens from the next one on
+  pub next-is : (p : Token → Bool) (us : List Token) → head_is p (tokens_at b x) ≡ true → us ≡ tokens Between (drop x.rest b) → us ≡ tail_of (tokens_at b x)
+  next-is p us h k = k ∙ go x.tok h
+    where
+      go : (t : Tok) → head_is p (tokens_of b t x.rest) ≡ true → tokens Between (drop x.rest b) ≡ tail_of (tokens_of b t x.rest)
+      go (Word w) h = refl
+      go (Number w) h = refl
+      go (Quoted w) h = refl
+      go (Sign w) h = refl
+      go Wrong h = refl
+      go End h = clash h
 
-  pub sign-other : (d c : ℕ) → x.tok ≡ Sign c → (c ≡ d → ⊥) → head_is (is_sign d) (tokens_at b x) ≡ false
+  pub sign-head : (d c : Signs) → x.tok ≡ Sign c → head_is (is_sign (number_of d)) (tokens_at b x) ≡ (number_of c == number_of d)
   unfolding is_sign
-  sign-other d c e h = ap (head_is (is_sign d)) (by-tok e) ∙ ne_eqb c d h
-
-  pub key-taken : (key : List ℕ) (p : Span) (w : List ℕ) (ts : List Token) → x.tok ≡ Word p → w ≡ part b p → true ≡ same_name (map small w) key → ts ≡ tokens Between (drop x.rest b) → (head_is (is_word key) (tokens_at b x) ≡ true) × (ts ≡ tail_of (tokens_at b x))
-  unfolding is_word
-  key-taken key p w ts e i h k = (ap (head_is (is_word key)) (by-tok e) ∙ ap (λ w. same_name (map small w) key) (sym i) ∙ sym h, k ∙ ap tail_of (sym (by-tok e)))
+  sign-head d c e = ap (head_is (is_sign (number_of d))) (by-tok e)
 
   pub key-another : (key : List ℕ) (p : Span) (w : List ℕ) (r : Bool) → x.tok ≡ Word p → w ≡ part b p → r ≡ same_name (map small w) key → head_is (is_word key) (tokens_at b x) ≡ r
   unfolding is_word
@@ -52,13 +58,13 @@ module _ (b : List ℕ) (x : Place) where
   unfolding a_number
   number-taken p w v ts e i h l k = ap a_number (by-tok e) ∙ ap (λ n. cond (ltb n 9223372036854775808) (gets n (tokens Between (drop x.rest b))) refuses) (sym (h ∙ ap (decimal 0) i)) ∙ ap (λ c. cond c (gets v (tokens Between (drop x.rest b))) refuses) (lt-ltb v 9223372036854775808 l) ∙ ap (gets v) (sym k)
 
-  pub sign-joint : (c : ℕ) → x.tok ≡ Sign c → joint_of (tokens_at b x) ≡ joint (text.Sign c)
+  pub sign-joint : (c : Signs) → x.tok ≡ Sign c → joint_of (tokens_at b x) ≡ joint (text.Sign (number_of c))
   sign-joint c e = ap joint_of (by-tok e)
 
-  pub sign-tail : (c : ℕ) (ts : List Token) → x.tok ≡ Sign c → ts ≡ tokens Between (drop x.rest b) → ts ≡ tail_of (tokens_at b x)
+  pub sign-tail : (c : Signs) (ts : List Token) → x.tok ≡ Sign c → ts ≡ tokens Between (drop x.rest b) → ts ≡ tail_of (tokens_at b x)
   sign-tail c ts e k = k ∙ ap tail_of (sym (by-tok e))
 
-pub sign-none : (d : ℕ) (b : List ℕ) (t : Tok) (r : ℕ) → ((c : ℕ) → t ≡ Sign c → ⊥) → head_is (is_sign d) (tokens_of b t r) ≡ false
+pub sign-none : (d : ℕ) (b : List ℕ) (t : Tok) (r : ℕ) → ((c : Signs) → t ≡ Sign c → ⊥) → head_is (is_sign d) (tokens_of b t r) ≡ false
 unfolding is_sign
 sign-none d b (Word p) r h = refl
 sign-none d b (Number p) r h = refl
@@ -112,7 +118,7 @@ and-joint [] h = clash h
 and-joint (t ∷ ts) h = ap joint (word-is k_and t h) ∙ and_is
 
 -- no sign, and neither word
-pub other-joint : (b : List ℕ) (t : Tok) (r : ℕ) → ((c : ℕ) → t ≡ Sign c → ⊥) → head_is (is_word k_or) (tokens_of b t r) ≡ false → head_is (is_word k_and) (tokens_of b t r) ≡ false → (joint_of (tokens_of b t r) ≡ ends) ⊎ (joint_of (tokens_of b t r) ≡ tests)
+pub other-joint : (b : List ℕ) (t : Tok) (r : ℕ) → ((c : Signs) → t ≡ Sign c → ⊥) → head_is (is_word k_or) (tokens_of b t r) ≡ false → head_is (is_word k_and) (tokens_of b t r) ≡ false → (joint_of (tokens_of b t r) ≡ ends) ⊎ (joint_of (tokens_of b t r) ≡ tests)
 unfolding joint joint_in is_word is_sign
 other-joint b (Word p) r h k l = go (same_name (name b p) k_is) (same_name (name b p) k_or) (same_name (name b p) k_and) k l
   where
@@ -127,9 +133,31 @@ other-joint b (Sign c) r h k l = absurd (h c refl)
 other-joint b Wrong r h k l = inl refl
 other-joint b End r h k l = inl refl
 
-pub no-infix : (s : ℕ) → (s ≡ 61 → ⊥) → (s ≡ 257 → ⊥) → (s ≡ 60 → ⊥) → (s ≡ 62 → ⊥) → (s ≡ 256 → ⊥) → (s ≡ 259 → ⊥) → (s ≡ 43 → ⊥) → (s ≡ 45 → ⊥) → (s ≡ 258 → ⊥) → (s ≡ 42 → ⊥) → joint (text.Sign s) ≡ ends
-unfolding joint joint_in is_word is_sign
-no-infix s h61 h257 h60 h62 h256 h259 h43 h45 h258 h42 = λ i. cond (ne_eqb s 61 h61 i) (joins 3 4 tree.equal) (cond (ne_eqb s 257 h257 i) (joins 3 4 (λ a b. tree.not' (tree.equal a b))) (cond (ne_eqb s 60 h60 i) (joins 3 4 tree.below) (cond (ne_eqb s 62 h62 i) (joins 3 4 (λ a b. tree.below b a)) (cond (ne_eqb s 256 h256 i) (joins 3 4 tree.at_most) (cond (ne_eqb s 259 h259 i) (joins 3 4 (λ a b. tree.at_most b a)) (cond (ne_eqb s 43 h43 i) (joins 4 4 tree.plus) (cond (ne_eqb s 45 h45 i) (joins 4 4 tree.minus) (cond (ne_eqb s 258 h258 i) (joins 4 4 tree.concat) (cond (ne_eqb s 42 h42 i) (joins 5 5 tree.times) (ends))))))))))
+-- the numbers of signs are their own
+back : ℕ → Signs
+back n =
+    cond (n == 40) sign.Open (cond (n == 41) sign.Close (cond (n == 44) sign.Comma (cond (n == 46) sign.Dot (cond (n == 42) sign.Times (cond (n == 43) sign.Plus (cond (n == 45) sign.Minus
+    (cond (n == 61) sign.Equal (cond (n == 60) sign.Below (cond (n == 256) sign.AtMost (cond (n == 257) sign.Differs (cond (n == 62) sign.Above (cond (n == 259) sign.AtLeast sign.Joined))))))))))))
+
+back-of : (s : Signs) → back (number_of s) ≡ s
+unfolding back
+back-of sign.Open = refl
+back-of sign.Close = refl
+back-of sign.Comma = refl
+back-of sign.Dot = refl
+back-of sign.Times = refl
+back-of sign.Plus = refl
+back-of sign.Minus = refl
+back-of sign.Equal = refl
+back-of sign.Below = refl
+back-of sign.AtMost = refl
+back-of sign.Differs = refl
+back-of sign.Above = refl
+back-of sign.AtLeast = refl
+back-of sign.Joined = refl
+
+pub same-sign : (s t : Signs) → number_of s ≡ number_of t → s ≡ t
+same-sign s t e = sym (back-of s) ∙ ap back e ∙ back-of t
 
 -- numbers
 pub decimal-least : (a : ℕ) (bs : List ℕ) → a ≤ decimal a bs

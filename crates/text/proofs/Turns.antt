@@ -1,5 +1,5 @@
 -- The turns of the loop that climbs. Assumes nothing.
-use Rattle.std.proofs.Common.{◌≡◌, ℕ, zero, suc, ◌+◌, ◌-◌, ◌*◌, ◌<◌, ◌≤◌, Bool, true, false, cond, ◌&&◌, leb, ◌⊎◌, List, [], ◌∷◌, length, sym, refl, ap, ◌∙◌, inl, inr, arith}
+use Rattle.std.proofs.Common.{◌≡◌, ℕ, zero, suc, Some, ◌+◌, ◌-◌, ◌*◌, ◌<◌, ◌≤◌, Bool, true, false, cond, ◌&&◌, leb, ◌⊎◌, List, [], ◌∷◌, length, sym, refl, ap, ◌∙◌, inl, inr, arith}
 use Rattle.std.proofs.lemmas.Bool.{le-leb, lt-leb, and_from}
 use Rattle.meaning.specs.Tree.{Expr}
 use Rattle.meaning.specs.Text.{Token, Word, k_is}
@@ -11,16 +11,15 @@ use Rattle.text.specs.Cut.{tokens_at}
 use Rattle.text.specs.Stands.{filled}
 use Rattle.text.specs.Found.{Grown, Stood, joint_of, Tested, Further}
 use Rattle.text.specs.declared.nodes.Nodes.{Nodes}
-use Rattle.text.specs.declared.parts.Part.{Part}
-use Rattle.text.specs.declared.parts.Next.{Next}
-use Rattle.text.specs.declared.parts.Next.TheVariants as ways
+use Rattle.text.specs.declared.parts.Parsed.{Parsed}
+use Rattle.text.specs.declared.parts.Operand.{Operand}
 
 -- after some turns, a part stands for what the reader has come to
-pub record Turning (b : List ℕ) (t u : Nodes) (k from left : ℕ) (start a : Part) : Type 0 where
+pub record Turning (b : List ℕ) (t u : Nodes) (k from left : ℕ) (start a : Parsed Operand) : Type 0 where
   pub less : left ≤ from
   pub grown : Grown (filled t) (filled u)
   pub few : length (filled u) + 2 * length (tokens_at b a.after) ≤ length (filled t) + 2 * length (tokens_at b start.after)
-  pub goes : (e : reader.Part) → Stood b t start e → (d : reader.Part) × (reader.more from k e (tokens_at b start.after) ≡ reader.more left k d (tokens_at b a.after)) × Stood b u a d
+  pub goes : (e : reader.Part) → Stood b t start.value e → (d : reader.Part) × (reader.more from k e (tokens_at b start.after) ≡ reader.more left k d (tokens_at b a.after)) × Stood b u a.value d
 
 -- one turn, by how the first token goes on
 is-joint : reader.joint (Word k_is) ≡ tests
@@ -87,11 +86,9 @@ more-none zero k e ts h = refl
 more-none (suc f) k e ts h = absurd (omega arith)
 
 -- a test for null is one turn
-pub tested-further : (b : List ℕ) (t u : Nodes) (us : List Token) (a : Part) (k f : ℕ) (r : Next) → ((e : reader.Part) → a.level ≡ e.level → reader.more (suc f) k e (tokens_at b a.after) ≡ and_then (null_test us) (λ c vs. reader.more f k (reader.part 3 (tested c e.it)) vs)) →
-    length (tokens_at b a.after) ≡ length us + 1 → Tested b t u us a r → Further b t u k f a r
-tested-further b t u us a k f ways.Ends is l h = absurd h
-tested-further b t u us a k f ways.Fails is l h = λ e v. is e v ∙ then-refused (null_test us) _ h
-tested-further b t u us a k f (ways.Goes p) is l h = record {
+pub tested-further : (b : List ℕ) (t u : Nodes) (us : List Token) (a p : Parsed Operand) (k f : ℕ) → ((e : reader.Part) → a.value.level ≡ e.level → reader.more (suc f) k e (tokens_at b a.after) ≡ and_then (null_test us) (λ c vs. reader.more f k (reader.part 3 (tested c e.it)) vs)) →
+    length (tokens_at b a.after) ≡ length us + 1 → Tested b t u us a.value (Some p) → Further b t u k f a (Some (Some p))
+tested-further b t u us a p k f is l h = record {
   grown = h.2.grown;
   few = omega (arith, h.2.few);
   goes = λ e s. let g = h.2.goes e s in (g.0, is e s.level ∙ then_is (λ c vs. reader.more f k (reader.part 3 (tested c e.it)) vs) h.1 (ap (λ d. reader.more f k d (tokens_at b p.after)) (sym g.1)), g.2);

@@ -1,33 +1,35 @@
 // The nodes as they are made: pushed, joined by operators, and read again.
-ghost use Rattle.std.specs.Prelude.{◌≡◌, ◌<◌, false, length};
+ghost use Rattle.std.specs.Prelude.{◌≡◌, ◌<◌, [], false, length};
 ghost use Rattle.text.specs.Stands.{filled, At};
 ghost use Rattle.text.specs.Found.{Pushed, Joined};
 
 use crate::nodes::{Node, Nodes, Op};
-use crate::parts::Part;
+use crate::parts::{Operand, Parsed, Term};
 use crate::tokens::Place;
 use crate::words::Infix;
 
 impl Nodes {
+    pub(crate) fn clear(&mut self)
+        ensures { filled self.new ≡ [] }
+    {
+        self.nodes.clear();
+    }
+
+    // There is room, so that nothing is allocated.
     pub(crate) fn push(&mut self, node: Node) -> u16
         requires { length (filled self.old) < 8200 }
         ensures { Pushed self.old self.new node result }
     {
-        let at = self.len;
-        self.nodes[at] = node;
-        self.len = at + 1;
-        at as u16
+        let at = self.nodes.len() as u16;
+        let _ = self.nodes.push(node);
+        at
     }
 
     // The node at an index; null where there is none.
     pub fn get(&self, i: u16) -> Node
         ensures { i < length (filled self.now) → At (filled self.now) i result }
     {
-        let at = i as usize;
-        if at < self.len {
-            return self.nodes[at];
-        }
-        Node::Null
+        self.nodes.get(i as usize).copied().unwrap_or(Node::Null)
     }
 }
 
@@ -56,16 +58,16 @@ pub fn join(nodes: &mut Nodes, op: Infix, a: u16, b: u16) -> u16
 }
 
 // A node of its own, of the smallest level.
-pub fn leaf(nodes: &mut Nodes, node: Node, after: Place) -> Part
+pub fn leaf(nodes: &mut Nodes, node: Node, after: Place) -> Parsed<Operand>
     requires { length (filled nodes.old) < 8200 }
-    ensures { (Pushed nodes.old nodes.new node result.node) × ((result.level ≡ 7) × ((result.aggregates ≡ false) × (result.after ≡ after))) }
+    ensures { (Pushed nodes.old nodes.new node result.value.it.node) × ((result.value.level ≡ 7) × ((result.value.it.aggregates ≡ false) × (result.after ≡ after))) }
 {
-    let node = nodes.push(node);
-    Part {
-        node,
-        level: 7,
+    let it = Term {
+        node: nodes.push(node),
         aggregates: false,
-        single: false,
+    };
+    Parsed {
+        value: Operand { level: 7, it },
         after,
     }
 }

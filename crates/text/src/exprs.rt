@@ -11,318 +11,314 @@ ghost use Rattle.text.specs.Found.{Ready, Further, ReadsExpr, ReadsPart, ReadsAf
 
 use crate::building::{join, leaf};
 use crate::nodes::{Fold, Node, Nodes, Span};
-use crate::parts::{Next, Part};
-use crate::tokens::{Place, Tok, next};
-use crate::words::{Named, has_key, take_infix, take_key, take_name, take_number, take_sign};
+use crate::parts::{Operand, Parsed, Term};
+use crate::tokens::{Place, Sign, Source, Tok};
 
 pub mod queries;
 
 use queries::question;
 
 // A column, alone or of a source.
-fn column(nodes: &mut Nodes, text: &[u8], name: Named) -> Option<Part>
-    requires { Ready text.now nodes.old name.after }
-    ensures { ReadsAfter text.now nodes.old nodes.new (tokens_at text.now name.after) (reader.column (name_of text.now name.span) (tokens_at text.now name.after)) result }
+fn column(nodes: &mut Nodes, source: Source<'_>, name: Parsed<Span>) -> Option<Parsed<Operand>>
+    requires { Ready source.bytes.now nodes.old name.after }
+    ensures { ReadsAfter source.entry.bytes.now nodes.old nodes.new (tokens_at source.entry.bytes.now name.after) (reader.column (name_of source.entry.bytes.now name.value) (tokens_at source.entry.bytes.now name.after)) result }
 {
-    let Some(at) = take_sign(text, name.after, 46) else {
-        return Some(leaf(
-            nodes,
-            Node::Column(Span { from: 0, len: 0 }, name.span),
-            name.after,
-        ));
+    let Some(at) = source.take_sign(name.after, Sign::Dot) else {
+        return Some(leaf(nodes, Node::Column(None, name.value), name.after));
     };
-    let Some(its) = take_name(text, at) else {
-        return None;
-    };
-    Some(leaf(nodes, Node::Column(name.span, its.span), its.after))
+    let its = source.take_name(at)?;
+    Some(leaf(nodes, Node::Column(Some(name.value), its.value), its.after))
 }
 
 // After `is`: null, or not null.
-fn tested(nodes: &mut Nodes, text: &[u8], a: Part, at: Place) -> Next
-    requires { Ready text.now nodes.old at }
-    ensures { Tested text.now nodes.old nodes.new (tokens_at text.now at) a result }
+fn tested(nodes: &mut Nodes, source: Source<'_>, a: Operand, at: Place) -> Option<Parsed<Operand>>
+    requires { Ready source.bytes.now nodes.old at }
+    ensures { Tested source.entry.bytes.now nodes.old nodes.new (tokens_at source.entry.bytes.now at) a result }
 {
-    if let Some(not) = take_key(text, at, b"not") {
-        let Some(after) = take_key(text, not, b"null") else {
-            return Next::Fails;
-        };
-        let null = nodes.push(Node::IsNull(a.node));
-        let node = nodes.push(Node::Not(null));
-        return Next::Goes(Part {
-            node,
-            level: 3,
-            aggregates: a.aggregates,
-            single: false,
-            after,
-        });
+    let not = source.take_key(at, b"not");
+    let after = source.take_key(not.unwrap_or(at), b"null")?;
+    let mut node = nodes.push(Node::IsNull(a.it.node));
+    if not.is_some() {
+        node = nodes.push(Node::Not(node));
     }
-    let Some(after) = take_key(text, at, b"null") else {
-        return Next::Fails;
-    };
-    let node = nodes.push(Node::IsNull(a.node));
-    Next::Goes(Part {
-        node,
-        level: 3,
-        aggregates: a.aggregates,
-        single: false,
+    Some(Parsed {
+        value: Operand {
+            level: 3,
+            it: Term { node, ..a.it },
+        },
         after,
     })
 }
 
 // An expression of a level. The number left falls with each call; one more than there are tokens is enough.
 #[cycle(climb)]
-pub fn expr(nodes: &mut Nodes, text: &[u8], at: Place, level: u8, left: usize) -> Option<Part>
-    requires { Ready text.now nodes.old at }
-    ensures { ReadsExpr text.now nodes.old nodes.new (tokens_at text.now at) (reader.expr left level (tokens_at text.now at)) result }
+pub fn expr(
+    nodes: &mut Nodes,
+    source: Source<'_>,
+    at: Place,
+    level: u8,
+    left: usize,
+) -> Option<Parsed<Term>>
+    requires { Ready source.bytes.now nodes.old at }
+    ensures { ReadsExpr source.entry.bytes.now nodes.old nodes.new (tokens_at source.entry.bytes.now at) (reader.expr left level (tokens_at source.entry.bytes.now at)) result }
 {
-    if left == 0 {
-        return None;
-    }
-    let Some(first) = operand(nodes, text, at, level, left - 1) else {
-        return None;
-    };
-    let mut a = first;
-    let mut turns = left - 1;
+    let left = left.checked_sub(1)?;
+    let mut a = operand(nodes, source, at, level, left)?;
+    let mut turns = left;
     while turns > 0 {
         turns -= 1;
-        match further(nodes, text, a, level, turns) {
-            Next::Ends => return Some(a),
-            Next::Fails => return None,
-            Next::Goes(b) => a = b,
-        }
+        let Some(b) = further(nodes, source, a, level, turns)? else {
+            return Some(Parsed {
+                value: a.value.it,
+                after: a.after,
+            });
+        };
+        a = b;
     }
     None
 }
 
-// What goes on after an expression, by one operator.
+// What goes on after an expression, by one operator; none where it ends there.
 #[cycle(climb)]
-fn further(nodes: &mut Nodes, text: &[u8], a: Part, level: u8, left: usize) -> Next
-    requires { Ready text.now nodes.old a.after }
-    ensures { Further text.now nodes.old nodes.new level left a result }
+fn further(
+    nodes: &mut Nodes,
+    source: Source<'_>,
+    a: Parsed<Operand>,
+    level: u8,
+    left: usize,
+) -> Option<Option<Parsed<Operand>>>
+    requires { Ready source.bytes.now nodes.old a.after }
+    ensures { Further source.entry.bytes.now nodes.old nodes.new level left a result }
 {
-    if let Some(after) = take_key(text, a.after, b"is") {
-        if level > 3 {
-            return Next::Ends;
+    if let Some(after) = source.take_key(a.after, b"is") {
+        if level > 3 || a.value.level < 4 {
+            return Some(None);
         }
-        if a.level < 4 {
-            return Next::Ends;
-        }
-        return tested(nodes, text, a, after);
+        let b = tested(nodes, source, a.value, after)?;
+        return Some(Some(b));
     }
-    let Some(link) = take_infix(text, a.after) else {
-        return Next::Ends;
+    let Some(link) = source.take_infix(a.after) else {
+        return Some(None);
     };
-    let of = link.op.level();
-    let under = link.op.left();
-    if level > of {
-        return Next::Ends;
+    let of = link.value.level();
+    let under = link.value.left();
+    if level > of || under > a.value.level {
+        return Some(None);
     }
-    if under > a.level {
-        return Next::Ends;
-    }
-    let Some(b) = expr(nodes, text, link.after, of + 1, left) else {
-        return Next::Fails;
+    let b = expr(nodes, source, link.after, of + 1, left)?;
+    let it = Term {
+        node: join(nodes, link.value, a.value.it.node, b.value.node),
+        aggregates: a.value.it.aggregates | b.value.aggregates,
     };
-    let node = join(nodes, link.op, a.node, b.node);
-    Next::Goes(Part {
-        node,
-        level: of,
-        aggregates: a.aggregates | b.aggregates,
-        single: false,
+    Some(Some(Parsed {
+        value: Operand { level: of, it },
         after: b.after,
-    })
+    }))
 }
 
 #[cycle(climb)]
-fn operand(nodes: &mut Nodes, text: &[u8], at: Place, level: u8, left: usize) -> Option<Part>
-    requires { Ready text.now nodes.old at }
-    ensures { ReadsPart text.now nodes.old nodes.new (tokens_at text.now at) (reader.operand (reader.expr left) (reader.exprs left) (reader.keys left) left level (tokens_at text.now at)) result }
+fn operand(
+    nodes: &mut Nodes,
+    source: Source<'_>,
+    at: Place,
+    level: u8,
+    left: usize,
+) -> Option<Parsed<Operand>>
+    requires { Ready source.bytes.now nodes.old at }
+    ensures { ReadsPart source.entry.bytes.now nodes.old nodes.new (tokens_at source.entry.bytes.now at) (reader.operand (reader.expr left) (reader.exprs left) (reader.keys left) left level (tokens_at source.entry.bytes.now at)) result }
 {
-    if let Some(name) = take_name(text, at) {
-        return column(nodes, text, name);
+    if let Some(name) = source.take_name(at) {
+        return column(nodes, source, name);
     }
-    if let Some(number) = take_number(text, at) {
+    if let Some(number) = source.take_number(at) {
         return Some(leaf(nodes, Node::Number(number.value), number.after));
     }
     if let Tok::Quoted(span) = at.tok {
-        return Some(leaf(nodes, Node::Text(span), next(text, at.rest)));
+        return Some(leaf(nodes, Node::Text(span), source.next(at.rest)));
     }
-    if let Some(inside) = take_sign(text, at, 40) {
-        return bracket(nodes, text, inside, left);
+    if let Some(inside) = source.take_sign(at, Sign::Open) {
+        return bracket(nodes, source, inside, left);
     }
-    if let Some(after) = take_sign(text, at, 45) {
-        let Some(a) = expr(nodes, text, after, 6, left) else {
-            return None;
-        };
-        let node = nodes.push(Node::Negated(a.node));
-        return Some(Part {
-            node,
-            level: 6,
-            aggregates: a.aggregates,
-            single: false,
+    if let Some(after) = source.take_sign(at, Sign::Minus) {
+        let a = expr(nodes, source, after, 6, left)?;
+        let node = nodes.push(Node::Negated(a.value.node));
+        return Some(Parsed {
+            value: Operand {
+                level: 6,
+                it: Term { node, ..a.value },
+            },
             after: a.after,
         });
     }
-    keyed(nodes, text, at, level, left)
+    keyed(nodes, source, at, level, left)
 }
 
 // After an opening bracket: a query of one column, or an expression.
 #[cycle(climb)]
-fn bracket(nodes: &mut Nodes, text: &[u8], at: Place, left: usize) -> Option<Part>
-    requires { Ready text.now nodes.old at }
-    ensures { ReadsPart text.now nodes.old nodes.new (tokens_at text.now at) (reader.bracket (reader.expr left) (reader.exprs left) (reader.keys left) left (tokens_at text.now at)) result }
+fn bracket(nodes: &mut Nodes, source: Source<'_>, at: Place, left: usize) -> Option<Parsed<Operand>>
+    requires { Ready source.bytes.now nodes.old at }
+    ensures { ReadsPart source.entry.bytes.now nodes.old nodes.new (tokens_at source.entry.bytes.now at) (reader.bracket (reader.expr left) (reader.exprs left) (reader.keys left) left (tokens_at source.entry.bytes.now at)) result }
 {
-    if has_key(text, at, b"select") {
-        let Some(q) = question(nodes, text, at, left) else {
-            return None;
-        };
-        let Some(after) = take_sign(text, q.after, 41) else {
-            return None;
-        };
-        if !q.single {
+    if source.has_key(at, b"select") {
+        let q = question(nodes, source, at, left)?;
+        let after = source.take_sign(q.after, Sign::Close)?;
+        if !q.value.single {
             return None;
         }
-        return Some(leaf(nodes, Node::Scalar(q.node), after));
+        return Some(leaf(nodes, Node::Scalar(q.value.node), after));
     }
-    let Some(a) = expr(nodes, text, at, 0, left) else {
-        return None;
-    };
-    let Some(after) = take_sign(text, a.after, 41) else {
-        return None;
-    };
-    Some(Part {
-        node: a.node,
-        level: 7,
-        aggregates: a.aggregates,
-        single: false,
+    let a = expr(nodes, source, at, 0, left)?;
+    let after = source.take_sign(a.after, Sign::Close)?;
+    Some(Parsed {
+        value: Operand {
+            level: 7,
+            it: a.value,
+        },
         after,
     })
 }
 
 // What begins with a keyword.
 #[cycle(climb)]
-fn keyed(nodes: &mut Nodes, text: &[u8], at: Place, level: u8, left: usize) -> Option<Part>
-    requires { Ready text.now nodes.old at }
-    ensures { ReadsPart text.now nodes.old nodes.new (tokens_at text.now at) (reader.keyed (reader.expr left) (reader.exprs left) (reader.keys left) left level (tokens_at text.now at)) result }
+fn keyed(
+    nodes: &mut Nodes,
+    source: Source<'_>,
+    at: Place,
+    level: u8,
+    left: usize,
+) -> Option<Parsed<Operand>>
+    requires { Ready source.bytes.now nodes.old at }
+    ensures { ReadsPart source.entry.bytes.now nodes.old nodes.new (tokens_at source.entry.bytes.now at) (reader.keyed (reader.expr left) (reader.exprs left) (reader.keys left) left level (tokens_at source.entry.bytes.now at)) result }
 {
-    if let Some(after) = take_key(text, at, b"null") {
+    if let Some(after) = source.take_key(at, b"null") {
         return Some(leaf(nodes, Node::Null, after));
     }
-    if let Some(after) = take_key(text, at, b"not") {
-        return negation(nodes, text, after, level, left);
+    if let Some(after) = source.take_key(at, b"not") {
+        return negation(nodes, source, after, level, left);
     }
-    if let Some(after) = take_key(text, at, b"exists") {
-        return existence(nodes, text, after, left);
+    if let Some(after) = source.take_key(at, b"exists") {
+        return existence(nodes, source, after, left);
     }
-    if let Some(after) = take_key(text, at, b"count") {
-        return count(nodes, text, after, left);
+    if let Some(after) = source.take_key(at, b"count") {
+        return count(nodes, source, after, left);
     }
-    if let Some(after) = take_key(text, at, b"sum") {
-        return fold(nodes, text, after, Fold::Sum, left);
+    if let Some(after) = source.take_key(at, b"sum") {
+        return fold(nodes, source, after, Fold::Sum, left);
     }
-    if let Some(after) = take_key(text, at, b"min") {
-        return fold(nodes, text, after, Fold::Min, left);
+    if let Some(after) = source.take_key(at, b"min") {
+        return fold(nodes, source, after, Fold::Min, left);
     }
-    if let Some(after) = take_key(text, at, b"max") {
-        return fold(nodes, text, after, Fold::Max, left);
+    if let Some(after) = source.take_key(at, b"max") {
+        return fold(nodes, source, after, Fold::Max, left);
     }
     None
 }
 
 #[cycle(climb)]
-fn negation(nodes: &mut Nodes, text: &[u8], at: Place, level: u8, left: usize) -> Option<Part>
-    requires { Ready text.now nodes.old at }
-    ensures { ReadsAfter text.now nodes.old nodes.new (tokens_at text.now at) (reader.negation level (reader.expr left) (tokens_at text.now at)) result }
+fn negation(
+    nodes: &mut Nodes,
+    source: Source<'_>,
+    at: Place,
+    level: u8,
+    left: usize,
+) -> Option<Parsed<Operand>>
+    requires { Ready source.bytes.now nodes.old at }
+    ensures { ReadsAfter source.entry.bytes.now nodes.old nodes.new (tokens_at source.entry.bytes.now at) (reader.negation level (reader.expr left) (tokens_at source.entry.bytes.now at)) result }
 {
     if level > 2 {
         return None;
     }
-    let Some(a) = expr(nodes, text, at, 2, left) else {
-        return None;
-    };
-    let node = nodes.push(Node::Not(a.node));
-    Some(Part {
-        node,
-        level: 2,
-        aggregates: a.aggregates,
-        single: false,
+    let a = expr(nodes, source, at, 2, left)?;
+    let node = nodes.push(Node::Not(a.value.node));
+    Some(Parsed {
+        value: Operand {
+            level: 2,
+            it: Term { node, ..a.value },
+        },
         after: a.after,
     })
 }
 
 // After `exists`.
 #[cycle(climb)]
-fn existence(nodes: &mut Nodes, text: &[u8], at: Place, left: usize) -> Option<Part>
-    requires { Ready text.now nodes.old at }
-    ensures { ReadsPart text.now nodes.old nodes.new (tokens_at text.now at) (reader.existence (reader.expr left) (reader.exprs left) (reader.keys left) left (tokens_at text.now at)) result }
+fn existence(
+    nodes: &mut Nodes,
+    source: Source<'_>,
+    at: Place,
+    left: usize,
+) -> Option<Parsed<Operand>>
+    requires { Ready source.bytes.now nodes.old at }
+    ensures { ReadsPart source.entry.bytes.now nodes.old nodes.new (tokens_at source.entry.bytes.now at) (reader.existence (reader.expr left) (reader.exprs left) (reader.keys left) left (tokens_at source.entry.bytes.now at)) result }
 {
-    let Some(inside) = take_sign(text, at, 40) else {
-        return None;
-    };
-    let Some(q) = question(nodes, text, inside, left) else {
-        return None;
-    };
-    let Some(after) = take_sign(text, q.after, 41) else {
-        return None;
-    };
-    Some(leaf(nodes, Node::Exists(q.node), after))
+    let inside = source.take_sign(at, Sign::Open)?;
+    let q = question(nodes, source, inside, left)?;
+    let after = source.take_sign(q.after, Sign::Close)?;
+    Some(leaf(nodes, Node::Exists(q.value.node), after))
 }
 
 // After `count`: all rows, or the values that are not null.
 #[cycle(climb)]
-fn count(nodes: &mut Nodes, text: &[u8], at: Place, left: usize) -> Option<Part>
-    requires { Ready text.now nodes.old at }
-    ensures { ReadsPart text.now nodes.old nodes.new (tokens_at text.now at) (reader.counted (reader.expr left) (tokens_at text.now at)) result }
+fn count(nodes: &mut Nodes, source: Source<'_>, at: Place, left: usize) -> Option<Parsed<Operand>>
+    requires { Ready source.bytes.now nodes.old at }
+    ensures { ReadsPart source.entry.bytes.now nodes.old nodes.new (tokens_at source.entry.bytes.now at) (reader.counted (reader.expr left) (tokens_at source.entry.bytes.now at)) result }
 {
-    let Some(inside) = take_sign(text, at, 40) else {
-        return None;
+    let inside = source.take_sign(at, Sign::Open)?;
+    let Some(star) = source.take_sign(inside, Sign::Times) else {
+        return folded(nodes, source, inside, Fold::Count, left);
     };
-    let Some(star) = take_sign(text, inside, 42) else {
-        return folded(nodes, text, inside, Fold::Count, left);
-    };
-    let Some(after) = take_sign(text, star, 41) else {
-        return None;
-    };
+    let after = source.take_sign(star, Sign::Close)?;
     let node = nodes.push(Node::RowCount);
-    Some(Part {
-        node,
-        level: 7,
-        aggregates: true,
-        single: false,
+    Some(Parsed {
+        value: Operand {
+            level: 7,
+            it: Term {
+                node,
+                aggregates: true,
+            },
+        },
         after,
     })
 }
 
 // After the word of an aggregate.
 #[cycle(climb)]
-fn fold(nodes: &mut Nodes, text: &[u8], at: Place, by: Fold, left: usize) -> Option<Part>
-    requires { Ready text.now nodes.old at }
-    ensures { ReadsPart text.now nodes.old nodes.new (tokens_at text.now at) (past (is_sign 40) (folded_of (folds_to by) (reader.expr left)) (tokens_at text.now at)) result }
+fn fold(
+    nodes: &mut Nodes,
+    source: Source<'_>,
+    at: Place,
+    by: Fold,
+    left: usize,
+) -> Option<Parsed<Operand>>
+    requires { Ready source.bytes.now nodes.old at }
+    ensures { ReadsPart source.entry.bytes.now nodes.old nodes.new (tokens_at source.entry.bytes.now at) (past (is_sign 40) (folded_of (folds_to by) (reader.expr left)) (tokens_at source.entry.bytes.now at)) result }
 {
-    let Some(inside) = take_sign(text, at, 40) else {
-        return None;
-    };
-    folded(nodes, text, inside, by, left)
+    let inside = source.take_sign(at, Sign::Open)?;
+    folded(nodes, source, inside, by, left)
 }
 
 // Within the brackets of an aggregate.
 #[cycle(climb)]
-fn folded(nodes: &mut Nodes, text: &[u8], at: Place, by: Fold, left: usize) -> Option<Part>
-    requires { Ready text.now nodes.old at }
-    ensures { ReadsPart text.now nodes.old nodes.new (tokens_at text.now at) (folded_of (folds_to by) (reader.expr left) (tokens_at text.now at)) result }
+fn folded(
+    nodes: &mut Nodes,
+    source: Source<'_>,
+    at: Place,
+    by: Fold,
+    left: usize,
+) -> Option<Parsed<Operand>>
+    requires { Ready source.bytes.now nodes.old at }
+    ensures { ReadsPart source.entry.bytes.now nodes.old nodes.new (tokens_at source.entry.bytes.now at) (folded_of (folds_to by) (reader.expr left) (tokens_at source.entry.bytes.now at)) result }
 {
-    let Some(a) = expr(nodes, text, at, 0, left) else {
-        return None;
-    };
-    let Some(after) = take_sign(text, a.after, 41) else {
-        return None;
-    };
-    let node = nodes.push(Node::Folded(by, a.node));
-    Some(Part {
-        node,
-        level: 7,
-        aggregates: true,
-        single: false,
+    let a = expr(nodes, source, at, 0, left)?;
+    let after = source.take_sign(a.after, Sign::Close)?;
+    let node = nodes.push(Node::Folded(by, a.value.node));
+    Some(Parsed {
+        value: Operand {
+            level: 7,
+            it: Term {
+                node,
+                aggregates: true,
+            },
+        },
         after,
     })
 }

@@ -9,6 +9,8 @@ ghost use Rattle.text.specs.Found.{ReadText};
 
 mod building;
 mod exprs;
+mod items;
+mod lists;
 mod nodes;
 mod parts;
 mod sources;
@@ -16,25 +18,21 @@ mod statements;
 mod tokens;
 mod words;
 
-pub use nodes::{Fold, Node, Nodes, Op, Question, Span, Statement};
+pub use nodes::{Col, Fold, Key, Node, Nodes, Op, Question, Row, Set, Span, Statement, Table};
 pub use parts::Refusal;
 use statements::statement;
-use tokens::{Tok, next};
-pub use words::{bytes_of, small_of};
+use tokens::{Source, Tok};
+pub use words::bytes_of;
 
 // The statement that a text is: refused as unread (1) where it is none, and as too long (10) above 4,096 bytes.
 pub fn read(nodes: &mut Nodes, text: &[u8]) -> Result<Statement, Refusal>
     ensures { ReadText text.now nodes.new result }
 {
-    if text.len() > 4096 {
-        return Err(Refusal::TooLong);
+    let source = Source::new(text)?;
+    nodes.clear();
+    let said = statement(nodes, source, source.next(0), text.len() + 1).ok_or(Refusal::Unread)?;
+    match said.after.tok {
+        Tok::End => Ok(said.value),
+        _ => Err(Refusal::Unread),
     }
-    nodes.len = 1;
-    let Some(said) = statement(nodes, text, next(text, 0), text.len() + 1) else {
-        return Err(Refusal::Unread);
-    };
-    let Tok::End = said.after.tok else {
-        return Err(Refusal::Unread);
-    };
-    Ok(said.it)
 }

@@ -1,5 +1,5 @@
 // The nodes of a read statement.
-ghost use Rattle.std.specs.Prelude.{◌≡◌, ◌≤◌, vec_len};
+ghost use Rattle.std.specs.Prelude.{◌≡◌, ◌≤◌, vec_capacity};
 
 use std::alloc::{AllocError, Global};
 
@@ -31,7 +31,7 @@ pub enum Fold {
     Max,
 }
 
-// A query, its parts by their nodes; 0 where a list is empty or nothing limits it.
+// A query, its parts by their nodes.
 #[derive(Clone, Copy)]
 pub struct Question {
     pub distinct: bool,
@@ -39,10 +39,45 @@ pub struct Question {
     pub out: u16,
     pub from: u16,
     pub wanted: u16,
-    pub groups: u16,
+    pub groups: Option<u16>,
     pub having: u16,
-    pub keys: u16,
-    pub limit: u16,
+    pub keys: Option<u16>,
+    pub limit: Option<u16>,
+}
+
+// A key to sort by, and whether downwards.
+#[derive(Clone, Copy)]
+pub struct Key {
+    pub by: u16,
+    pub down: bool,
+}
+
+// A table of a query; its alias is its own name where none is given.
+#[derive(Clone, Copy)]
+pub struct Table {
+    pub name: Span,
+    pub alias: Span,
+}
+
+// A column of a new table: whether it is a text, and whether it must be there.
+#[derive(Clone, Copy)]
+pub struct Col {
+    pub name: Span,
+    pub text: bool,
+    pub must: bool,
+}
+
+// A row to insert, by the first of its expressions.
+#[derive(Clone, Copy)]
+pub struct Row {
+    pub first: u16,
+}
+
+// A column that is set, and what to.
+#[derive(Clone, Copy)]
+pub struct Set {
+    pub col: Span,
+    pub to: u16,
 }
 
 // What a node says: others by their index, names and texts as parts of the statement's bytes.
@@ -52,8 +87,8 @@ pub enum Node {
     Number(u64),
     // what stands between the quotes, with its quotes doubled
     Text(Span),
-    // the source, of length 0 where none is named, and the name
-    Column(Span, Span),
+    // the source, where one is named, and the name
+    Column(Option<Span>, Span),
     Both(Op, u16, u16),
     Negated(u16),
     Not(u16),
@@ -65,15 +100,14 @@ pub enum Node {
     Query(Question),
     // at most so many rows, after so many
     Limit(u64, u64),
-    // the items of lists, each with the node of the next, or 0
-    Item(u16, u16),
-    Key(u16, bool, u16),
-    Source(Span, Span, u16),
-    Name(Span, u16),
-    // the name, whether it is a text, whether it must be there
-    Col(Span, bool, bool, u16),
-    Row(u16, u16),
-    Set(Span, u16, u16),
+    // the items of lists, each with the node of the next
+    Item(u16, Option<u16>),
+    Key(Key, Option<u16>),
+    Source(Table, Option<u16>),
+    Name(Span, Option<u16>),
+    Col(Col, Option<u16>),
+    Row(Row, Option<u16>),
+    Set(Set, Option<u16>),
 }
 
 // A read statement: names as parts of its bytes, expressions, queries and lists by their nodes.
@@ -99,18 +133,16 @@ pub enum Statement {
     Release(Span),
 }
 
-// Room for the nodes of every statement: two for each of 4,096 bytes, and a few. Node 0 is none.
+// Room for the nodes of every statement: two for each of 4,096 bytes, and a few.
 #[derive(Drop)]
 pub struct Nodes {
     pub(crate) nodes: Vec<Node>,
-    pub(crate) len: usize,
-    ghost room: { vec_len nodes ≡ 8200 },
-    ghost within: { len ≤ 8200 },
+    ghost room: { 8200 ≤ vec_capacity nodes },
 }
 
 impl Nodes {
     pub fn new(heap: Global) -> Result<Nodes, AllocError> {
-        let nodes = vec![in heap; Node::Null; 8200]?;
-        Ok(Nodes { nodes, len: 1 })
+        let nodes = Vec::with_capacity(heap, 8200)?;
+        Ok(Nodes { nodes })
     }
 }

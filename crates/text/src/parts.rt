@@ -1,53 +1,58 @@
 // What the parts of the reader answer.
-use crate::nodes::Statement;
 use crate::tokens::Place;
 
-// A node that was read, what is to be known of it, and the place after it. Level and flags are 0 and false where nothing is said of them.
+// What was read, and the place after it.
 #[derive(Clone, Copy)]
-pub struct Part {
+pub struct Parsed<T> {
+    pub value: T,
+    pub after: Place,
+}
+
+// An expression: its node, and whether it aggregates.
+#[derive(Clone, Copy)]
+pub struct Term {
     pub node: u16,
-    // of an operand: its level
-    pub level: u8,
-    // whether an expression, or one of a list, aggregates
     pub aggregates: bool,
-    // whether a list has one expression, or a query one column
+}
+
+// An operand, with its level.
+#[derive(Clone, Copy)]
+pub struct Operand {
+    pub level: u8,
+    pub it: Term,
+}
+
+// A list of expressions: its first node, whether one of them aggregates, and whether it is the only one.
+#[derive(Clone, Copy)]
+pub struct Terms {
+    pub first: u16,
+    pub aggregates: bool,
     pub single: bool,
-    pub after: Place,
 }
 
-// How it goes on after an expression: no further, wrongly, or with a longer one.
+// The keys to sort by, if there are any, and whether one aggregates.
 #[derive(Clone, Copy)]
-pub enum Next {
-    Ends,
-    Fails,
-    Goes(Part),
+pub struct Order {
+    pub first: Option<u16>,
+    pub aggregates: bool,
 }
 
-// The direction of a key, and the place after it.
-#[derive(Clone, Copy)]
-pub struct Way {
-    pub down: bool,
-    pub after: Place,
-}
-
-// The groups of a query.
+// The groups of a query, if it has any, and what is wanted of them.
 #[derive(Clone, Copy)]
 pub struct Grouping {
-    pub are: bool,
-    pub by: u16,
+    pub by: Option<u16>,
     pub having: u16,
-    pub after: Place,
 }
 
-// A statement that was read, and the place after it.
+// A query: its node, and whether it has one column.
 #[derive(Clone, Copy)]
-pub struct Said {
-    pub it: Statement,
-    pub after: Place,
+pub struct Asked {
+    pub node: u16,
+    pub single: bool,
 }
 
 // Why a text was not read: it is no statement, or too long.
-#[derive(Clone, Copy)]
+#[derive(Clone, Copy, PartialEq, Eq)]
 pub enum Refusal {
     Unread,
     TooLong,

@@ -1,98 +1,82 @@
 // The parts of a query that hold no expressions: its tables, and how many rows it gives.
+ghost use Rattle.meaning.specs.Tree as tree;
 ghost use Rattle.grammar.specs.Reader as reader;
-ghost use Rattle.text.specs.Cut.{tokens_at, Short};
-ghost use Rattle.text.specs.Found.{Ready, ReadsSources, ReadsLimit, Distinguished};
+ghost use Rattle.text.specs.Cut.{tokens_at};
+ghost use Rattle.text.specs.Stands.{StandsSource, Alone};
+ghost use Rattle.text.specs.Found.{Ready, ReadsLimit, Distinguished};
+ghost use Rattle.text.specs.declared.nodes.Node.TheVariants as made_node;
 
-use crate::nodes::{Node, Nodes};
-use crate::parts::{Part, Way};
-use crate::tokens::Place;
-use crate::words::{take_key, take_name, take_number, take_sign};
+use crate::lists::Item;
+use crate::nodes::{Node, Nodes, Table};
+use crate::parts::Parsed;
+use crate::tokens::{Place, Source};
 
 // distinct, or not.
-pub fn distinction(text: &[u8], at: Place) -> Way
-    requires { Short text.now }
-    ensures { Distinguished text.now (tokens_at text.now at) result }
+pub fn distinction(source: Source<'_>, at: Place) -> Parsed<bool>
+    ensures { Distinguished source.entry.bytes.now (tokens_at source.entry.bytes.now at) result }
 {
-    let Some(after) = take_key(text, at, b"distinct") else {
-        return Way {
-            down: false,
-            after: at,
-        };
-    };
-    Way { down: true, after }
+    let distinct = source.take_key(at, b"distinct");
+    Parsed {
+        value: distinct.is_some(),
+        after: distinct.unwrap_or(at),
+    }
 }
 
-// The tables of a query, each with its alias, which is its own name where none is given.
-pub fn sources(nodes: &mut Nodes, text: &[u8], at: Place, left: usize) -> Option<Part>
-    requires { Ready text.now nodes.old at }
-    ensures { ReadsSources text.now nodes.old nodes.new (tokens_at text.now at) (reader.sources left (tokens_at text.now at)) result }
-{
-    if left == 0 {
-        return None;
-    }
-    let Some(table) = take_name(text, at) else {
-        return None;
-    };
-    let alias = take_name(text, table.after).unwrap_or(table);
-    let Some(comma) = take_sign(text, alias.after, 44) else {
-        let node = nodes.push(Node::Source(table.span, alias.span, 0));
-        return Some(Part {
-            node,
-            level: 0,
-            aggregates: false,
-            single: false,
+impl Item for Table {
+    ghost Tree = { tree.Source };
+
+    ghost reader = { λ n. reader.a_source };
+
+    ghost Stands = { StandsSource };
+
+    ghost Within = { Alone };
+
+    ghost made = { made_node.Source };
+
+    fn read(
+        nodes: &mut Nodes,
+        source: Source<'_>,
+        at: Place,
+        turns: usize,
+    ) -> Option<Parsed<Table>> {
+        let name = source.take_name(at)?;
+        let alias = source.take_name(name.after).unwrap_or(name);
+        Some(Parsed {
+            value: Table {
+                name: name.value,
+                alias: alias.value,
+            },
             after: alias.after,
-        });
-    };
-    let Some(rest) = sources(nodes, text, comma, left - 1) else {
-        return None;
-    };
-    let node = nodes.push(Node::Source(table.span, alias.span, rest.node));
-    Some(Part {
-        node,
-        level: 0,
-        aggregates: false,
-        single: false,
-        after: rest.after,
-    })
+        })
+    }
+
+    fn node(self, rest: Option<u16>) -> Node {
+        Node::Source(self, rest)
+    }
 }
 
 // How many rows at most, and after how many.
-pub fn limits(nodes: &mut Nodes, text: &[u8], at: Place) -> Option<Part>
-    requires { Ready text.now nodes.old at }
-    ensures { ReadsLimit text.now nodes.old nodes.new (tokens_at text.now at) (reader.limits (tokens_at text.now at)) result }
+pub fn limits(nodes: &mut Nodes, source: Source<'_>, at: Place) -> Option<Parsed<Option<u16>>>
+    requires { Ready source.bytes.now nodes.old at }
+    ensures { ReadsLimit source.entry.bytes.now nodes.old nodes.new (tokens_at source.entry.bytes.now at) (reader.limits (tokens_at source.entry.bytes.now at)) result }
 {
-    let Some(limit) = take_key(text, at, b"limit") else {
-        return Some(Part {
-            node: 0,
-            level: 0,
-            aggregates: false,
-            single: false,
+    let Some(limit) = source.take_key(at, b"limit") else {
+        return Some(Parsed {
+            value: None,
             after: at,
         });
     };
-    let Some(most) = take_number(text, limit) else {
-        return None;
-    };
-    let Some(offset) = take_key(text, most.after, b"offset") else {
-        let node = nodes.push(Node::Limit(most.value, 0));
-        return Some(Part {
-            node,
-            level: 0,
-            aggregates: false,
-            single: false,
+    let most = source.take_number(limit)?;
+    let skip = match source.take_key(most.after, b"offset") {
+        Some(offset) => source.take_number(offset)?,
+        None => Parsed {
+            value: 0,
             after: most.after,
-        });
-    };
-    let Some(skip) = take_number(text, offset) else {
-        return None;
+        },
     };
     let node = nodes.push(Node::Limit(most.value, skip.value));
-    Some(Part {
-        node,
-        level: 0,
-        aggregates: false,
-        single: false,
+    Some(Parsed {
+        value: Some(node),
         after: skip.after,
     })
 }

@@ -1,220 +1,30 @@
 // The reader of statements.
-ghost use Rattle.meaning.specs.Tree as tree;
 ghost use Rattle.grammar.specs.Reader as reader;
-ghost use Rattle.text.specs.Cut.{tokens_at, Short};
-ghost use Rattle.text.specs.Found.{Ready, ReadsCols, ReadsNames, ReadsRows, ReadsSets, Must, Kinds, Says, Names, marks};
+ghost use Rattle.text.specs.Cut.{tokens_at};
+ghost use Rattle.text.specs.Found.{Ready, Says, Names, NamedBy};
 
-use crate::exprs::expr;
-use crate::exprs::queries::{condition, exprs, question};
-use crate::nodes::{Node, Nodes, Statement};
-use crate::parts::{Part, Said, Way};
-use crate::tokens::Place;
-use crate::words::{take_key, take_name, take_sign};
-
-// not null, or nothing.
-fn must(text: &[u8], at: Place) -> Option<Way>
-    requires { Short text.now }
-    ensures { Must text.now (tokens_at text.now at) result }
-{
-    let Some(not) = take_key(text, at, b"not") else {
-        return Some(Way {
-            down: false,
-            after: at,
-        });
-    };
-    let Some(after) = take_key(text, not, b"null") else {
-        return None;
-    };
-    Some(Way { down: true, after })
-}
-
-// The kind of a column: whether it is a text.
-fn kind(text: &[u8], at: Place) -> Option<Way>
-    requires { Short text.now }
-    ensures { Kinds text.now (tokens_at text.now at) result }
-{
-    if let Some(after) = take_key(text, at, b"int") {
-        return Some(Way { down: false, after });
-    }
-    let Some(after) = take_key(text, at, b"text") else {
-        return None;
-    };
-    Some(Way { down: true, after })
-}
-
-// The columns of a table.
-fn cols(nodes: &mut Nodes, text: &[u8], at: Place, left: usize) -> Option<Part>
-    requires { Ready text.now nodes.old at }
-    ensures { ReadsCols text.now nodes.old nodes.new (tokens_at text.now at) (reader.list_of reader.a_col left (tokens_at text.now at)) result }
-{
-    if left == 0 {
-        return None;
-    }
-    let Some(name) = take_name(text, at) else {
-        return None;
-    };
-    let Some(kind) = kind(text, name.after) else {
-        return None;
-    };
-    let Some(must) = must(text, kind.after) else {
-        return None;
-    };
-    let Some(comma) = take_sign(text, must.after, 44) else {
-        let node = nodes.push(Node::Col(name.span, kind.down, must.down, 0));
-        return Some(Part {
-            node,
-            level: 0,
-            aggregates: false,
-            single: false,
-            after: must.after,
-        });
-    };
-    let Some(rest) = cols(nodes, text, comma, left - 1) else {
-        return None;
-    };
-    let node = nodes.push(Node::Col(name.span, kind.down, must.down, rest.node));
-    Some(Part {
-        node,
-        level: 0,
-        aggregates: false,
-        single: false,
-        after: rest.after,
-    })
-}
-
-// A list of names.
-fn names(nodes: &mut Nodes, text: &[u8], at: Place, left: usize) -> Option<Part>
-    requires { Ready text.now nodes.old at }
-    ensures { ReadsNames text.now nodes.old nodes.new (tokens_at text.now at) (reader.list_of reader.a_name left (tokens_at text.now at)) result }
-{
-    if left == 0 {
-        return None;
-    }
-    let Some(name) = take_name(text, at) else {
-        return None;
-    };
-    let Some(comma) = take_sign(text, name.after, 44) else {
-        let node = nodes.push(Node::Name(name.span, 0));
-        return Some(Part {
-            node,
-            level: 0,
-            aggregates: false,
-            single: false,
-            after: name.after,
-        });
-    };
-    let Some(rest) = names(nodes, text, comma, left - 1) else {
-        return None;
-    };
-    let node = nodes.push(Node::Name(name.span, rest.node));
-    Some(Part {
-        node,
-        level: 0,
-        aggregates: false,
-        single: false,
-        after: rest.after,
-    })
-}
-
-// The rows to insert: lists in brackets. Each may take as many turns as the statement.
-fn rows(nodes: &mut Nodes, text: &[u8], at: Place, turns: usize, left: usize) -> Option<Part>
-    requires { Ready text.now nodes.old at }
-    ensures { ReadsRows text.now nodes.old nodes.new (tokens_at text.now at) (reader.list_of (reader.a_row turns) left (tokens_at text.now at)) result }
-{
-    if left == 0 {
-        return None;
-    }
-    let Some(open) = take_sign(text, at, 40) else {
-        return None;
-    };
-    let Some(row) = exprs(nodes, text, open, turns) else {
-        return None;
-    };
-    let Some(close) = take_sign(text, row.after, 41) else {
-        return None;
-    };
-    let Some(comma) = take_sign(text, close, 44) else {
-        let node = nodes.push(Node::Row(row.node, 0));
-        return Some(Part {
-            node,
-            level: 0,
-            aggregates: false,
-            single: false,
-            after: close,
-        });
-    };
-    let Some(rest) = rows(nodes, text, comma, turns, left - 1) else {
-        return None;
-    };
-    let node = nodes.push(Node::Row(row.node, rest.node));
-    Some(Part {
-        node,
-        level: 0,
-        aggregates: false,
-        single: false,
-        after: rest.after,
-    })
-}
-
-// What is set.
-fn sets(nodes: &mut Nodes, text: &[u8], at: Place, turns: usize, left: usize) -> Option<Part>
-    requires { Ready text.now nodes.old at }
-    ensures { ReadsSets text.now nodes.old nodes.new (tokens_at text.now at) (reader.list_of (reader.a_set turns) left (tokens_at text.now at)) result }
-{
-    if left == 0 {
-        return None;
-    }
-    let Some(name) = take_name(text, at) else {
-        return None;
-    };
-    let Some(equals) = take_sign(text, name.after, 61) else {
-        return None;
-    };
-    let Some(to) = expr(nodes, text, equals, 0, turns) else {
-        return None;
-    };
-    let Some(comma) = take_sign(text, to.after, 44) else {
-        let node = nodes.push(Node::Set(name.span, to.node, 0));
-        return Some(Part {
-            node,
-            level: 0,
-            aggregates: false,
-            single: false,
-            after: to.after,
-        });
-    };
-    let Some(rest) = sets(nodes, text, comma, turns, left - 1) else {
-        return None;
-    };
-    let node = nodes.push(Node::Set(name.span, to.node, rest.node));
-    Some(Part {
-        node,
-        level: 0,
-        aggregates: false,
-        single: false,
-        after: rest.after,
-    })
-}
+use crate::exprs::queries::{condition, question};
+use crate::lists::list;
+use crate::nodes::{Col, Nodes, Row, Set, Span, Statement};
+use crate::parts::Parsed;
+use crate::tokens::{Place, Sign, Source};
 
 // After `create table`.
-fn create_table(nodes: &mut Nodes, text: &[u8], at: Place, left: usize) -> Option<Said>
-    requires { Ready text.now nodes.old at }
-    ensures { Says text.now nodes.new (reader.create_table left (tokens_at text.now at)) result }
+fn create_table(
+    nodes: &mut Nodes,
+    source: Source<'_>,
+    at: Place,
+    left: usize,
+) -> Option<Parsed<Statement>>
+    requires { Ready source.bytes.now nodes.old at }
+    ensures { Says source.entry.bytes.now nodes.new (reader.create_table left (tokens_at source.entry.bytes.now at)) result }
 {
-    let Some(name) = take_name(text, at) else {
-        return None;
-    };
-    let Some(open) = take_sign(text, name.after, 40) else {
-        return None;
-    };
-    let Some(list) = cols(nodes, text, open, left) else {
-        return None;
-    };
-    let Some(after) = take_sign(text, list.after, 41) else {
-        return None;
-    };
-    Some(Said {
-        it: Statement::CreateTable(name.span, list.node),
+    let name = source.take_name(at)?;
+    let open = source.take_sign(name.after, Sign::Open)?;
+    let cols = list::<Col>(nodes, source, open, left, left)?;
+    let after = source.take_sign(cols.after, Sign::Close)?;
+    Some(Parsed {
+        value: Statement::CreateTable(name.value, cols.value),
         after,
     })
 }
@@ -222,237 +32,195 @@ fn create_table(nodes: &mut Nodes, text: &[u8], at: Place, left: usize) -> Optio
 // After `create index` or `create unique index`.
 fn create_index(
     nodes: &mut Nodes,
-    text: &[u8],
+    source: Source<'_>,
     at: Place,
     unique: bool,
     left: usize,
-) -> Option<Said>
-    requires { Ready text.now nodes.old at }
-    ensures { Says text.now nodes.new (reader.create_index left unique (tokens_at text.now at)) result }
+) -> Option<Parsed<Statement>>
+    requires { Ready source.bytes.now nodes.old at }
+    ensures { Says source.entry.bytes.now nodes.new (reader.create_index left unique (tokens_at source.entry.bytes.now at)) result }
 {
-    let Some(name) = take_name(text, at) else {
-        return None;
-    };
-    let Some(on) = take_key(text, name.after, b"on") else {
-        return None;
-    };
-    let Some(table) = take_name(text, on) else {
-        return None;
-    };
-    let Some(open) = take_sign(text, table.after, 40) else {
-        return None;
-    };
-    let Some(list) = names(nodes, text, open, left) else {
-        return None;
-    };
-    let Some(after) = take_sign(text, list.after, 41) else {
-        return None;
-    };
-    Some(Said {
-        it: Statement::CreateIndex(unique, name.span, table.span, list.node),
-        after,
-    })
+    let name = source.take_name(at)?;
+    let on = source.take_key(name.after, b"on")?;
+    let table = source.take_name(on)?;
+    let open = source.take_sign(table.after, Sign::Open)?;
+    let cols = list::<Span>(nodes, source, open, left, left)?;
+    let after = source.take_sign(cols.after, Sign::Close)?;
+    let value = Statement::CreateIndex(unique, name.value, table.value, cols.value);
+    Some(Parsed { value, after })
 }
 
-fn create(nodes: &mut Nodes, text: &[u8], at: Place, left: usize) -> Option<Said>
-    requires { Ready text.now nodes.old at }
-    ensures { Says text.now nodes.new (reader.create left (tokens_at text.now at)) result }
+fn create(
+    nodes: &mut Nodes,
+    source: Source<'_>,
+    at: Place,
+    left: usize,
+) -> Option<Parsed<Statement>>
+    requires { Ready source.bytes.now nodes.old at }
+    ensures { Says source.entry.bytes.now nodes.new (reader.create left (tokens_at source.entry.bytes.now at)) result }
 {
-    if let Some(table) = take_key(text, at, b"table") {
-        return create_table(nodes, text, table, left);
+    if let Some(table) = source.take_key(at, b"table") {
+        return create_table(nodes, source, table, left);
     }
-    if let Some(index) = take_key(text, at, b"index") {
-        return create_index(nodes, text, index, false, left);
+    if let Some(index) = source.take_key(at, b"index") {
+        return create_index(nodes, source, index, false, left);
     }
-    let Some(unique) = take_key(text, at, b"unique") else {
-        return None;
-    };
-    let Some(index) = take_key(text, unique, b"index") else {
-        return None;
-    };
-    create_index(nodes, text, index, true, left)
+    let unique = source.take_key(at, b"unique")?;
+    let index = source.take_key(unique, b"index")?;
+    create_index(nodes, source, index, true, left)
 }
 
-fn drop_one(text: &[u8], at: Place) -> Option<Said>
-    requires { Short text.now }
-    ensures { Names text.now (reader.drop (tokens_at text.now at)) result }
+// A name, and the statement of it.
+fn named<F: Fn(Span) -> Statement>(
+    source: Source<'_>,
+    at: Place,
+    make: F,
+) -> Option<Parsed<Statement>>
+    requires { F.IsAlwaysCallable make }
+    ensures { NamedBy (F.post make) source.entry.bytes.now (tokens_at source.entry.bytes.now at) result }
 {
-    if let Some(table) = take_key(text, at, b"table") {
-        let Some(name) = take_name(text, table) else {
-            return None;
-        };
-        return Some(Said {
-            it: Statement::DropTable(name.span),
-            after: name.after,
-        });
-    }
-    let Some(index) = take_key(text, at, b"index") else {
-        return None;
-    };
-    let Some(name) = take_name(text, index) else {
-        return None;
-    };
-    Some(Said {
-        it: Statement::DropIndex(name.span),
+    let name = source.take_name(at)?;
+    Some(Parsed {
+        value: make(name.value),
         after: name.after,
     })
+}
+
+fn drop_one(source: Source<'_>, at: Place) -> Option<Parsed<Statement>>
+    ensures { Names source.entry.bytes.now (reader.drop (tokens_at source.entry.bytes.now at)) result }
+{
+    if let Some(table) = source.take_key(at, b"table") {
+        return named(source, table, |name| Statement::DropTable(name));
+    }
+    let index = source.take_key(at, b"index")?;
+    named(source, index, |name| Statement::DropIndex(name))
 }
 
 // After `rollback`.
-fn rollback(text: &[u8], at: Place) -> Option<Said>
-    requires { Short text.now }
-    ensures { Names text.now (reader.rollback (tokens_at text.now at)) result }
+fn rollback(source: Source<'_>, at: Place) -> Option<Parsed<Statement>>
+    ensures { Names source.entry.bytes.now (reader.rollback (tokens_at source.entry.bytes.now at)) result }
 {
-    let Some(to) = take_key(text, at, b"to") else {
-        return Some(Said {
-            it: Statement::Rollback,
+    let Some(to) = source.take_key(at, b"to") else {
+        return Some(Parsed {
+            value: Statement::Rollback,
             after: at,
         });
     };
-    let Some(name) = take_name(text, to) else {
-        return None;
-    };
-    Some(Said {
-        it: Statement::RollbackTo(name.span),
-        after: name.after,
-    })
+    named(source, to, |name| Statement::RollbackTo(name))
 }
 
-fn insert(nodes: &mut Nodes, text: &[u8], at: Place, left: usize) -> Option<Said>
-    requires { Ready text.now nodes.old at }
-    ensures { Says text.now nodes.new (reader.insert left (tokens_at text.now at)) result }
+fn insert(
+    nodes: &mut Nodes,
+    source: Source<'_>,
+    at: Place,
+    left: usize,
+) -> Option<Parsed<Statement>>
+    requires { Ready source.bytes.now nodes.old at }
+    ensures { Says source.entry.bytes.now nodes.new (reader.insert left (tokens_at source.entry.bytes.now at)) result }
 {
-    let Some(into) = take_key(text, at, b"into") else {
-        return None;
-    };
-    let Some(name) = take_name(text, into) else {
-        return None;
-    };
-    if let Some(values) = take_key(text, name.after, b"values") {
-        let Some(list) = rows(nodes, text, values, left, left) else {
-            return None;
-        };
-        return Some(Said {
-            it: Statement::Insert(name.span, list.node),
-            after: list.after,
+    let into = source.take_key(at, b"into")?;
+    let name = source.take_name(into)?;
+    if let Some(values) = source.take_key(name.after, b"values") {
+        let rows = list::<Row>(nodes, source, values, left, left)?;
+        return Some(Parsed {
+            value: Statement::Insert(name.value, rows.value),
+            after: rows.after,
         });
     }
-    let Some(query) = question(nodes, text, name.after, left) else {
-        return None;
-    };
-    Some(Said {
-        it: Statement::InsertFrom(name.span, query.node),
+    let query = question(nodes, source, name.after, left)?;
+    Some(Parsed {
+        value: Statement::InsertFrom(name.value, query.value.node),
         after: query.after,
     })
 }
 
-fn update(nodes: &mut Nodes, text: &[u8], at: Place, left: usize) -> Option<Said>
-    requires { Ready text.now nodes.old at }
-    ensures { Says text.now nodes.new (reader.update left (tokens_at text.now at)) result }
+fn update(
+    nodes: &mut Nodes,
+    source: Source<'_>,
+    at: Place,
+    left: usize,
+) -> Option<Parsed<Statement>>
+    requires { Ready source.bytes.now nodes.old at }
+    ensures { Says source.entry.bytes.now nodes.new (reader.update left (tokens_at source.entry.bytes.now at)) result }
 {
-    let Some(name) = take_name(text, at) else {
-        return None;
-    };
-    let Some(set) = take_key(text, name.after, b"set") else {
-        return None;
-    };
-    let Some(list) = sets(nodes, text, set, left, left) else {
-        return None;
-    };
-    let Some(wanted) = condition(nodes, text, list.after, b"where", left) else {
-        return None;
-    };
-    Some(Said {
-        it: Statement::Update(name.span, list.node, wanted.node),
+    let name = source.take_name(at)?;
+    let set = source.take_key(name.after, b"set")?;
+    let sets = list::<Set>(nodes, source, set, left, left)?;
+    let wanted = condition(nodes, source, sets.after, b"where", left)?;
+    let value = Statement::Update(name.value, sets.value, wanted.value);
+    Some(Parsed {
+        value,
         after: wanted.after,
     })
 }
 
-fn delete(nodes: &mut Nodes, text: &[u8], at: Place, left: usize) -> Option<Said>
-    requires { Ready text.now nodes.old at }
-    ensures { Says text.now nodes.new (reader.delete left (tokens_at text.now at)) result }
+fn delete(
+    nodes: &mut Nodes,
+    source: Source<'_>,
+    at: Place,
+    left: usize,
+) -> Option<Parsed<Statement>>
+    requires { Ready source.bytes.now nodes.old at }
+    ensures { Says source.entry.bytes.now nodes.new (reader.delete left (tokens_at source.entry.bytes.now at)) result }
 {
-    let Some(from) = take_key(text, at, b"from") else {
-        return None;
-    };
-    let Some(name) = take_name(text, from) else {
-        return None;
-    };
-    let Some(wanted) = condition(nodes, text, name.after, b"where", left) else {
-        return None;
-    };
-    Some(Said {
-        it: Statement::Delete(name.span, wanted.node),
+    let from = source.take_key(at, b"from")?;
+    let name = source.take_name(from)?;
+    let wanted = condition(nodes, source, name.after, b"where", left)?;
+    Some(Parsed {
+        value: Statement::Delete(name.value, wanted.value),
         after: wanted.after,
-    })
-}
-
-// A savepoint set or released.
-fn mark(text: &[u8], at: Place, keep: bool) -> Option<Said>
-    requires { Short text.now }
-    ensures { Names text.now (reader.named (marks keep) (tokens_at text.now at)) result }
-{
-    let Some(name) = take_name(text, at) else {
-        return None;
-    };
-    if keep {
-        return Some(Said {
-            it: Statement::Savepoint(name.span),
-            after: name.after,
-        });
-    }
-    Some(Said {
-        it: Statement::Release(name.span),
-        after: name.after,
     })
 }
 
 // Any statement, by its first word.
-pub fn statement(nodes: &mut Nodes, text: &[u8], at: Place, left: usize) -> Option<Said>
-    requires { Ready text.now nodes.old at }
-    ensures { Says text.now nodes.new (reader.statement left (tokens_at text.now at)) result }
+pub fn statement(
+    nodes: &mut Nodes,
+    source: Source<'_>,
+    at: Place,
+    left: usize,
+) -> Option<Parsed<Statement>>
+    requires { Ready source.bytes.now nodes.old at }
+    ensures { Says source.entry.bytes.now nodes.new (reader.statement left (tokens_at source.entry.bytes.now at)) result }
 {
-    if let Some(after) = take_key(text, at, b"create") {
-        return create(nodes, text, after, left);
+    if let Some(after) = source.take_key(at, b"create") {
+        return create(nodes, source, after, left);
     }
-    if let Some(after) = take_key(text, at, b"drop") {
-        return drop_one(text, after);
+    if let Some(after) = source.take_key(at, b"drop") {
+        return drop_one(source, after);
     }
-    if let Some(after) = take_key(text, at, b"insert") {
-        return insert(nodes, text, after, left);
+    if let Some(after) = source.take_key(at, b"insert") {
+        return insert(nodes, source, after, left);
     }
-    if let Some(after) = take_key(text, at, b"update") {
-        return update(nodes, text, after, left);
+    if let Some(after) = source.take_key(at, b"update") {
+        return update(nodes, source, after, left);
     }
-    if let Some(after) = take_key(text, at, b"delete") {
-        return delete(nodes, text, after, left);
+    if let Some(after) = source.take_key(at, b"delete") {
+        return delete(nodes, source, after, left);
     }
-    if let Some(after) = take_key(text, at, b"begin") {
-        return Some(Said {
-            it: Statement::Begin,
+    if let Some(after) = source.take_key(at, b"begin") {
+        return Some(Parsed {
+            value: Statement::Begin,
             after,
         });
     }
-    if let Some(after) = take_key(text, at, b"commit") {
-        return Some(Said {
-            it: Statement::Commit,
+    if let Some(after) = source.take_key(at, b"commit") {
+        return Some(Parsed {
+            value: Statement::Commit,
             after,
         });
     }
-    if let Some(after) = take_key(text, at, b"rollback") {
-        return rollback(text, after);
+    if let Some(after) = source.take_key(at, b"rollback") {
+        return rollback(source, after);
     }
-    if let Some(after) = take_key(text, at, b"savepoint") {
-        return mark(text, after, true);
+    if let Some(after) = source.take_key(at, b"savepoint") {
+        return named(source, after, |name| Statement::Savepoint(name));
     }
-    if let Some(after) = take_key(text, at, b"release") {
-        return mark(text, after, false);
+    if let Some(after) = source.take_key(at, b"release") {
+        return named(source, after, |name| Statement::Release(name));
     }
-    let Some(query) = question(nodes, text, at, left) else {
-        return None;
-    };
-    Some(Said {
-        it: Statement::Select(query.node),
+    let query = question(nodes, source, at, left)?;
+    Some(Parsed {
+        value: Statement::Select(query.value.node),
         after: query.after,
     })
 }

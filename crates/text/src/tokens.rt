@@ -1,18 +1,39 @@
 // Tokens cut from the bytes, one at a time.
-ghost use Rattle.std.specs.Prelude.{◌≡◌, ◌+◌, ◌<◌, ◌≤◌, true, false, [], ◌∷◌, length, take, drop, MatchOption, slice_index};
-ghost use Rattle.meaning.specs.Text.{tokens, Between, InQuotes, Wrong as Faulty, Quoted as Quote, letter, digit, signs, spaces, is_in};
-ghost use Rattle.text.specs.Cut.{Run, in_word, space, tokens_at, undoubled, Short};
+ghost use Rattle.std.specs.Prelude.{◌≡◌, ◌+◌, ◌<◌, ◌≤◌, true, false, [], ◌∷◌, length, take, drop, MatchOption, IfOk, IfErr, slice_index};
+ghost use Rattle.meaning.specs.Text.{tokens, Between, InQuotes, Wrong as Faulty, Quoted as Quote, letter, digit, spaces, is_in};
+ghost use Rattle.text.specs.declared.parts.Refusal.{Refusal};
+ghost use Rattle.text.specs.Cut.{RunBy, space, tokens_at, undoubled, Opens};
 
 use crate::nodes::Span;
+use crate::parts::Refusal;
+use octets::byte_at;
 
-// A token: a part of the bytes, but for the signs. Signs of two bytes have numbers from 256: <= <> || >=.
+#[derive(Clone, Copy, PartialEq, Eq)]
+pub enum Sign {
+    Open,
+    Close,
+    Comma,
+    Dot,
+    Times,
+    Plus,
+    Minus,
+    Equal,
+    Below,
+    AtMost,
+    Differs,
+    Above,
+    AtLeast,
+    Joined,
+}
+
+// A token: a part of the bytes, but for the signs.
 #[derive(Clone, Copy)]
 pub enum Tok {
     Word(Span),
     Number(Span),
     // what stands between the quotes, with its quotes doubled
     Quoted(Span),
-    Sign(u16),
+    Sign(Sign),
     Wrong,
     End,
 }
@@ -24,16 +45,23 @@ pub struct Place {
     pub rest: usize,
 }
 
+// The bytes of a statement, which is not too long.
+#[derive(Clone, Copy)]
+pub struct Source<'a> {
+    pub bytes: &'a [u8],
+    ghost short: { length bytes.now ≤ 4096 },
+}
+
 fn is_letter(b: u8) -> bool
     ensures { result ≡ letter b }
 {
-    matches!(b, b'a'..=b'z' | b'A'..=b'Z' | b'_')
+    b.is_ascii_alphabetic() || b == b'_'
 }
 
 fn is_digit(b: u8) -> bool
     ensures { result ≡ digit b }
 {
-    matches!(b, b'0'..=b'9')
+    b.is_ascii_digit()
 }
 
 fn is_space(b: u8) -> bool
@@ -42,41 +70,15 @@ fn is_space(b: u8) -> bool
     matches!(b, b' ' | b'\t' | b'\n' | b'\r')
 }
 
-fn is_sign(b: u8) -> bool
-    ensures { result ≡ is_in b signs }
+// How many bytes of a kind stand at the front.
+fn run_len<F: Fn(u8) -> bool>(bytes: &[u8], is_kind: F) -> usize
+    requires { F.IsAlwaysCallable is_kind }
+    ensures { RunBy (F.post is_kind) bytes.now result }
 {
-    matches!(b, b'(' | b')' | b',' | b'.' | b'*' | b'+' | b'-' | b'=')
-}
-
-// How many bytes of a word stand at the front.
-fn word_len(s: &[u8]) -> usize
-    ensures { Run in_word s.now result }
-{
-    let mut n = 0;
-    while n < s.len() && (is_letter(s[n]) || is_digit(s[n])) {
-        n += 1;
-    }
-    n
-}
-
-fn digits_len(s: &[u8]) -> usize
-    ensures { Run digit s.now result }
-{
-    let mut n = 0;
-    while n < s.len() && is_digit(s[n]) {
-        n += 1;
-    }
-    n
-}
-
-fn spaces_len(s: &[u8]) -> usize
-    ensures { Run space s.now result }
-{
-    let mut n = 0;
-    while n < s.len() && is_space(s[n]) {
-        n += 1;
-    }
-    n
+    bytes
+        .iter()
+        .position(|&b| !is_kind(b))
+        .unwrap_or(bytes.len())
 }
 
 // How many bytes stand before the closing quote.
@@ -96,11 +98,11 @@ fn quoted_len(s: &[u8]) -> Option<usize>
     None
 }
 
-// The byte at a place, or 0 past the end.
-fn byte_at(s: &[u8], i: usize) -> u8
-    ensures { result ≡ slice_index s.now i }
+// The bytes from a place on; past the end there are none.
+fn bytes_from(bytes: &[u8], from: usize) -> &[u8]
+    ensures { result.now ≡ drop from bytes.now }
 {
-    if i < s.len() { s[i] } else { 0 }
+    bytes.get(from..).unwrap_or(&[])
 }
 
 fn span(from: usize, len: usize) -> Span
@@ -113,161 +115,121 @@ fn span(from: usize, len: usize) -> Span
     }
 }
 
-fn word_at(text: &[u8], at: usize) -> Place
-    requires { (Short text.now) × ((at < length text.now) × (letter (slice_index text.now at) ≡ true)) }
-    ensures { tokens_at text.now result ≡ tokens Between (drop at text.now) }
-{
-    let n = word_len(&text[at..]);
-    Place {
-        tok: Tok::Word(span(at, n)),
-        rest: at + n,
+impl<'a> Source<'a> {
+    pub fn new(bytes: &'a [u8]) -> Result<Source<'a>, Refusal>
+        ensures ok { IfOk result (λ s. s.bytes.now ≡ bytes.now) }
+        ensures err { IfErr result (λ e. (e ≡ Refusal.TooLong) × (4096 < length bytes.now)) }
+    {
+        if bytes.len() > 4096 {
+            return Err(Refusal::TooLong);
+        }
+        Ok(Source { bytes })
     }
-}
 
-fn number_at(text: &[u8], at: usize) -> Place
-    requires { (Short text.now) × ((at < length text.now) × (digit (slice_index text.now at) ≡ true)) }
-    ensures { tokens_at text.now result ≡ tokens Between (drop at text.now) }
-{
-    let n = digits_len(&text[at..]);
-    if is_letter(byte_at(text, at + n)) {
-        return Place {
-            tok: Tok::Wrong,
-            rest: at + n,
-        };
+    fn word_at(self, at: usize) -> Place
+        requires { (at < length self.bytes.now) × (letter (slice_index self.bytes.now at) ≡ true) }
+        ensures { tokens_at self.entry.bytes.now result ≡ tokens Between (drop at self.entry.bytes.now) }
+    {
+        let len = run_len(bytes_from(self.bytes, at), |b| is_letter(b) || is_digit(b));
+        Place {
+            tok: Tok::Word(span(at, len)),
+            rest: at + len,
+        }
     }
-    Place {
-        tok: Tok::Number(span(at, n)),
-        rest: at + n,
-    }
-}
 
-fn quoted_at(text: &[u8], at: usize) -> Place
-    requires { (Short text.now) × ((at < length text.now) × (slice_index text.now at ≡ 39)) }
-    ensures { tokens_at text.now result ≡ tokens Between (drop at text.now) }
-{
-    let Some(n) = quoted_len(&text[at + 1..]) else {
-        return Place {
-            tok: Tok::Wrong,
-            rest: text.len(),
-        };
-    };
-    Place {
-        tok: Tok::Quoted(span(at + 1, n)),
-        rest: at + n + 2,
+    // Digits, and no letter after them.
+    fn number_at(self, at: usize) -> Place
+        requires { (at < length self.bytes.now) × (digit (slice_index self.bytes.now at) ≡ true) }
+        ensures { tokens_at self.entry.bytes.now result ≡ tokens Between (drop at self.entry.bytes.now) }
+    {
+        let len = run_len(bytes_from(self.bytes, at), is_digit);
+        let rest = at + len;
+        if is_letter(byte_at(self.bytes, rest)) {
+            return Place {
+                tok: Tok::Wrong,
+                rest,
+            };
+        }
+        Place {
+            tok: Tok::Number(span(at, len)),
+            rest,
+        }
     }
-}
 
-// < <= <>
-fn less_at(text: &[u8], at: usize) -> Place
-    requires { (at < length text.now) × (slice_index text.now at ≡ 60) }
-    ensures { tokens_at text.now result ≡ tokens Between (drop at text.now) }
-{
-    let next = byte_at(text, at + 1);
-    if next == b'=' {
-        return Place {
-            tok: Tok::Sign(256),
-            rest: at + 2,
+    fn quoted_at(self, at: usize) -> Place
+        requires { (at < length self.bytes.now) × (slice_index self.bytes.now at ≡ 39) }
+        ensures { tokens_at self.entry.bytes.now result ≡ tokens Between (drop at self.entry.bytes.now) }
+    {
+        let Some(len) = quoted_len(bytes_from(self.bytes, at + 1)) else {
+            return Place {
+                tok: Tok::Wrong,
+                rest: self.bytes.len(),
+            };
         };
+        Place {
+            tok: Tok::Quoted(span(at + 1, len)),
+            rest: at + len + 2,
+        }
     }
-    if next == b'>' {
-        return Place {
-            tok: Tok::Sign(257),
-            rest: at + 2,
-        };
-    }
-    Place {
-        tok: Tok::Sign(60),
-        rest: at + 1,
-    }
-}
 
-// > >=
-fn more_at(text: &[u8], at: usize) -> Place
-    requires { (at < length text.now) × (slice_index text.now at ≡ 62) }
-    ensures { tokens_at text.now result ≡ tokens Between (drop at text.now) }
-{
-    if byte_at(text, at + 1) == b'=' {
-        return Place {
-            tok: Tok::Sign(259),
-            rest: at + 2,
+    // A sign of one byte or two; any other byte, and a lone bar, is no token.
+    fn sign_at(self, at: usize) -> Place
+        requires { (at < length self.bytes.now) × Opens (slice_index self.bytes.now at) }
+        ensures { tokens_at self.entry.bytes.now result ≡ tokens Between (drop at self.entry.bytes.now) }
+    {
+        let (tok, len) = match (self.bytes[at], byte_at(self.bytes, at + 1)) {
+            (b'(', _) => (Tok::Sign(Sign::Open), 1),
+            (b')', _) => (Tok::Sign(Sign::Close), 1),
+            (b',', _) => (Tok::Sign(Sign::Comma), 1),
+            (b'.', _) => (Tok::Sign(Sign::Dot), 1),
+            (b'*', _) => (Tok::Sign(Sign::Times), 1),
+            (b'+', _) => (Tok::Sign(Sign::Plus), 1),
+            (b'-', _) => (Tok::Sign(Sign::Minus), 1),
+            (b'=', _) => (Tok::Sign(Sign::Equal), 1),
+            (b'<', b'=') => (Tok::Sign(Sign::AtMost), 2),
+            (b'<', b'>') => (Tok::Sign(Sign::Differs), 2),
+            (b'<', _) => (Tok::Sign(Sign::Below), 1),
+            (b'>', b'=') => (Tok::Sign(Sign::AtLeast), 2),
+            (b'>', _) => (Tok::Sign(Sign::Above), 1),
+            (b'|', b'|') => (Tok::Sign(Sign::Joined), 2),
+            _ => (Tok::Wrong, 1),
         };
+        Place {
+            tok,
+            rest: at + len,
+        }
     }
-    Place {
-        tok: Tok::Sign(62),
-        rest: at + 1,
-    }
-}
 
-// || and a lone bar, which is no token
-fn bar_at(text: &[u8], at: usize) -> Place
-    requires { (at < length text.now) × (slice_index text.now at ≡ 124) }
-    ensures { tokens_at text.now result ≡ tokens Between (drop at text.now) }
-{
-    if byte_at(text, at + 1) == b'|' {
-        return Place {
-            tok: Tok::Sign(258),
-            rest: at + 2,
-        };
+    // The token at a place where no space stands.
+    fn cut(self, at: usize) -> Place
+        requires { (at < length self.bytes.now) × (space (slice_index self.bytes.now at) ≡ false) }
+        ensures { tokens_at self.entry.bytes.now result ≡ tokens Between (drop at self.entry.bytes.now) }
+    {
+        let b = self.bytes[at];
+        if is_letter(b) {
+            return self.word_at(at);
+        }
+        if is_digit(b) {
+            return self.number_at(at);
+        }
+        if b == b'\'' {
+            return self.quoted_at(at);
+        }
+        self.sign_at(at)
     }
-    Place {
-        tok: Tok::Wrong,
-        rest: at + 1,
-    }
-}
 
-// The token at a place where no space stands.
-fn cut(text: &[u8], at: usize) -> Place
-    requires { (Short text.now) × ((at < length text.now) × (space (slice_index text.now at) ≡ false)) }
-    ensures { tokens_at text.now result ≡ tokens Between (drop at text.now) }
-{
-    let b = text[at];
-    if is_letter(b) {
-        return word_at(text, at);
-    }
-    if is_digit(b) {
-        return number_at(text, at);
-    }
-    if is_sign(b) {
-        return Place {
-            tok: Tok::Sign(b as u16),
-            rest: at + 1,
-        };
-    }
-    if b == b'\'' {
-        return quoted_at(text, at);
-    }
-    if b == b'<' {
-        return less_at(text, at);
-    }
-    if b == b'>' {
-        return more_at(text, at);
-    }
-    if b == b'|' {
-        return bar_at(text, at);
-    }
-    Place {
-        tok: Tok::Wrong,
-        rest: at + 1,
-    }
-}
-
-// The first token from a place on.
-pub fn next(text: &[u8], from: usize) -> Place
-    requires { Short text.now }
-    ensures { tokens_at text.now result ≡ tokens Between (drop from text.now) }
-{
-    if from >= text.len() {
-        return Place {
+    // The first token from a place on.
+    pub fn next(self, from: usize) -> Place
+        ensures { tokens_at self.entry.bytes.now result ≡ tokens Between (drop from self.entry.bytes.now) }
+    {
+        let rest = bytes_from(self.bytes, from);
+        let len = run_len(rest, is_space);
+        if len < rest.len() {
+            return self.cut(from + len);
+        }
+        Place {
             tok: Tok::End,
             rest: from,
-        };
+        }
     }
-    let n = spaces_len(&text[from..]);
-    if n >= text.len() - from {
-        return Place {
-            tok: Tok::End,
-            rest: from,
-        };
-    }
-    cut(text, from + n)
 }

@@ -1,101 +1,96 @@
 // The reader of queries, and of the lists and conditions that they are made of.
 ghost use Rattle.grammar.specs.Reader as reader;
 ghost use Rattle.grammar.specs.Reader.{asks};
-ghost use Rattle.text.specs.Cut.{tokens_at, Short};
+ghost use Rattle.text.specs.Cut.{tokens_at};
 ghost use Rattle.text.specs.Found.{Ready, ReadsCondition, ReadsExprs, ReadsKeys, ReadsQuery, ReadsGroups, Directed};
 
 use crate::building::leaf;
 use crate::exprs::expr;
-use crate::nodes::{Node, Nodes, Question};
-use crate::parts::{Grouping, Part, Way};
-use crate::sources::{distinction, limits, sources};
-use crate::tokens::Place;
-use crate::words::{take_key, take_sign};
+use crate::lists::list;
+use crate::nodes::{Key, Node, Nodes, Question, Table};
+use crate::parts::{Asked, Grouping, Order, Parsed, Terms};
+use crate::sources::{distinction, limits};
+use crate::tokens::{Place, Sign, Source};
 
 // A list of expressions.
+// kept: (c) not an `Item` of `lists`, nor are keys: a generic function can't be one of the functions that call each other here.
 #[cycle(climb)]
-pub fn exprs(nodes: &mut Nodes, text: &[u8], at: Place, left: usize) -> Option<Part>
-    requires { Ready text.now nodes.old at }
-    ensures { ReadsExprs text.now nodes.old nodes.new (tokens_at text.now at) (reader.exprs left (tokens_at text.now at)) result }
+pub fn exprs(nodes: &mut Nodes, source: Source<'_>, at: Place, left: usize) -> Option<Parsed<Terms>>
+    requires { Ready source.bytes.now nodes.old at }
+    ensures { ReadsExprs source.entry.bytes.now nodes.old nodes.new (tokens_at source.entry.bytes.now at) (reader.exprs left (tokens_at source.entry.bytes.now at)) result }
 {
-    if left == 0 {
-        return None;
-    }
-    let Some(e) = expr(nodes, text, at, 0, left - 1) else {
-        return None;
-    };
-    let Some(comma) = take_sign(text, e.after, 44) else {
-        let node = nodes.push(Node::Item(e.node, 0));
-        return Some(Part {
-            node,
-            level: 0,
-            aggregates: e.aggregates,
+    let left = left.checked_sub(1)?;
+    let e = expr(nodes, source, at, 0, left)?;
+    let Some(comma) = source.take_sign(e.after, Sign::Comma) else {
+        let value = Terms {
+            first: nodes.push(Node::Item(e.value.node, None)),
+            aggregates: e.value.aggregates,
             single: true,
+        };
+        return Some(Parsed {
+            value,
             after: e.after,
         });
     };
-    let Some(rest) = exprs(nodes, text, comma, left - 1) else {
-        return None;
-    };
-    let node = nodes.push(Node::Item(e.node, rest.node));
-    Some(Part {
-        node,
-        level: 0,
-        aggregates: e.aggregates | rest.aggregates,
+    let rest = exprs(nodes, source, comma, left)?;
+    let value = Terms {
+        first: nodes.push(Node::Item(e.value.node, Some(rest.value.first))),
+        aggregates: e.value.aggregates | rest.value.aggregates,
         single: false,
+    };
+    Some(Parsed {
+        value,
         after: rest.after,
     })
 }
 
 // The direction after a key; upwards where none is named.
-fn direction(text: &[u8], at: Place) -> Way
-    requires { Short text.now }
-    ensures { Directed text.now (tokens_at text.now at) result }
+fn direction(source: Source<'_>, at: Place) -> Parsed<bool>
+    ensures { Directed source.entry.bytes.now (tokens_at source.entry.bytes.now at) result }
 {
-    if let Some(after) = take_key(text, at, b"asc") {
-        return Way { down: false, after };
+    if let Some(after) = source.take_key(at, b"asc") {
+        return Parsed {
+            value: false,
+            after,
+        };
     }
-    if let Some(after) = take_key(text, at, b"desc") {
-        return Way { down: true, after };
-    }
-    Way {
-        down: false,
-        after: at,
+    let desc = source.take_key(at, b"desc");
+    Parsed {
+        value: desc.is_some(),
+        after: desc.unwrap_or(at),
     }
 }
 
 // A list of keys to sort by.
 #[cycle(climb)]
-fn keys(nodes: &mut Nodes, text: &[u8], at: Place, left: usize) -> Option<Part>
-    requires { Ready text.now nodes.old at }
-    ensures { ReadsKeys text.now nodes.old nodes.new (tokens_at text.now at) (reader.keys left (tokens_at text.now at)) result }
+fn keys(nodes: &mut Nodes, source: Source<'_>, at: Place, left: usize) -> Option<Parsed<Order>>
+    requires { Ready source.bytes.now nodes.old at }
+    ensures { ReadsKeys source.entry.bytes.now nodes.old nodes.new (tokens_at source.entry.bytes.now at) (reader.keys left (tokens_at source.entry.bytes.now at)) result }
 {
-    if left == 0 {
-        return None;
-    }
-    let Some(e) = expr(nodes, text, at, 0, left - 1) else {
-        return None;
+    let left = left.checked_sub(1)?;
+    let e = expr(nodes, source, at, 0, left)?;
+    let way = direction(source, e.after);
+    let key = Key {
+        by: e.value.node,
+        down: way.value,
     };
-    let way = direction(text, e.after);
-    let Some(comma) = take_sign(text, way.after, 44) else {
-        let node = nodes.push(Node::Key(e.node, way.down, 0));
-        return Some(Part {
-            node,
-            level: 0,
-            aggregates: e.aggregates,
-            single: false,
+    let Some(comma) = source.take_sign(way.after, Sign::Comma) else {
+        let value = Order {
+            first: Some(nodes.push(Node::Key(key, None))),
+            aggregates: e.value.aggregates,
+        };
+        return Some(Parsed {
+            value,
             after: way.after,
         });
     };
-    let Some(rest) = keys(nodes, text, comma, left - 1) else {
-        return None;
+    let rest = keys(nodes, source, comma, left)?;
+    let value = Order {
+        first: Some(nodes.push(Node::Key(key, rest.value.first))),
+        aggregates: e.value.aggregates | rest.value.aggregates,
     };
-    let node = nodes.push(Node::Key(e.node, way.down, rest.node));
-    Some(Part {
-        node,
-        level: 0,
-        aggregates: e.aggregates | rest.aggregates,
-        single: false,
+    Some(Parsed {
+        value,
         after: rest.after,
     })
 }
@@ -104,121 +99,108 @@ fn keys(nodes: &mut Nodes, text: &[u8], at: Place, left: usize) -> Option<Part>
 #[cycle(climb)]
 pub fn condition(
     nodes: &mut Nodes,
-    text: &[u8],
+    source: Source<'_>,
     at: Place,
     word: &[u8],
     left: usize,
-) -> Option<Part>
-    requires { Ready text.now nodes.old at }
-    ensures { ReadsCondition text.now nodes.old nodes.new (tokens_at text.now at) (reader.condition word.now (reader.expr left) (tokens_at text.now at)) result }
+) -> Option<Parsed<u16>>
+    requires { Ready source.bytes.now nodes.old at }
+    ensures { ReadsCondition source.entry.bytes.now nodes.old nodes.new (tokens_at source.entry.bytes.now at) (reader.condition word.now (reader.expr left) (tokens_at source.entry.bytes.now at)) result }
 {
-    let Some(after) = take_key(text, at, word) else {
-        return Some(leaf(nodes, Node::Number(1), at));
+    let Some(after) = source.take_key(at, word) else {
+        let value = nodes.push(Node::Number(1));
+        return Some(Parsed { value, after: at });
     };
-    expr(nodes, text, after, 0, left)
+    let e = expr(nodes, source, after, 0, left)?;
+    Some(Parsed {
+        value: e.value.node,
+        after: e.after,
+    })
 }
 
 // group by and having, or no groups.
 #[cycle(climb)]
-fn groups(nodes: &mut Nodes, text: &[u8], at: Place, left: usize) -> Option<Grouping>
-    requires { Ready text.now nodes.old at }
-    ensures { ReadsGroups text.now nodes.old nodes.new (tokens_at text.now at) (reader.groups (reader.expr left) (reader.exprs left) (tokens_at text.now at)) result }
+fn groups(nodes: &mut Nodes, source: Source<'_>, at: Place, left: usize) -> Option<Parsed<Grouping>>
+    requires { Ready source.bytes.now nodes.old at }
+    ensures { ReadsGroups source.entry.bytes.now nodes.old nodes.new (tokens_at source.entry.bytes.now at) (reader.groups (reader.expr left) (reader.exprs left) (tokens_at source.entry.bytes.now at)) result }
 {
-    let Some(group) = take_key(text, at, b"group") else {
+    let Some(group) = source.take_key(at, b"group") else {
         let having = nodes.push(Node::Number(1));
-        return Some(Grouping {
-            are: false,
-            by: 0,
-            having,
+        return Some(Parsed {
+            value: Grouping { by: None, having },
             after: at,
         });
     };
-    let Some(by) = take_key(text, group, b"by") else {
-        return None;
+    let by = source.take_key(group, b"by")?;
+    let list = exprs(nodes, source, by, left)?;
+    let having = condition(nodes, source, list.after, b"having", left)?;
+    let value = Grouping {
+        by: Some(list.value.first),
+        having: having.value,
     };
-    let Some(list) = exprs(nodes, text, by, left) else {
-        return None;
-    };
-    let Some(having) = condition(nodes, text, list.after, b"having", left) else {
-        return None;
-    };
-    Some(Grouping {
-        are: true,
-        by: list.node,
-        having: having.node,
+    Some(Parsed {
+        value,
         after: having.after,
     })
 }
 
 // order by, or no keys.
 #[cycle(climb)]
-fn orders(nodes: &mut Nodes, text: &[u8], at: Place, left: usize) -> Option<Part>
-    requires { Ready text.now nodes.old at }
-    ensures { ReadsKeys text.now nodes.old nodes.new (tokens_at text.now at) (reader.orders (reader.keys left) (tokens_at text.now at)) result }
+fn orders(nodes: &mut Nodes, source: Source<'_>, at: Place, left: usize) -> Option<Parsed<Order>>
+    requires { Ready source.bytes.now nodes.old at }
+    ensures { ReadsKeys source.entry.bytes.now nodes.old nodes.new (tokens_at source.entry.bytes.now at) (reader.orders (reader.keys left) (tokens_at source.entry.bytes.now at)) result }
 {
-    let Some(order) = take_key(text, at, b"order") else {
-        return Some(Part {
-            node: 0,
-            level: 0,
-            aggregates: false,
-            single: false,
+    let Some(order) = source.take_key(at, b"order") else {
+        return Some(Parsed {
+            value: Order {
+                first: None,
+                aggregates: false,
+            },
             after: at,
         });
     };
-    let Some(by) = take_key(text, order, b"by") else {
-        return None;
-    };
-    keys(nodes, text, by, left)
+    let by = source.take_key(order, b"by")?;
+    keys(nodes, source, by, left)
 }
 
 // A query.
 #[cycle(climb)]
-pub fn question(nodes: &mut Nodes, text: &[u8], at: Place, left: usize) -> Option<Part>
-    requires { Ready text.now nodes.old at }
-    ensures { ReadsQuery text.now nodes.old nodes.new (tokens_at text.now at) (asks left (tokens_at text.now at)) result }
+pub fn question(
+    nodes: &mut Nodes,
+    source: Source<'_>,
+    at: Place,
+    left: usize,
+) -> Option<Parsed<Asked>>
+    requires { Ready source.bytes.now nodes.old at }
+    ensures { ReadsQuery source.entry.bytes.now nodes.old nodes.new (tokens_at source.entry.bytes.now at) (asks left (tokens_at source.entry.bytes.now at)) result }
 {
-    let Some(select) = take_key(text, at, b"select") else {
-        return None;
-    };
-    let distinct = distinction(text, select);
-    let Some(out) = exprs(nodes, text, distinct.after, left) else {
-        return None;
-    };
-    let Some(table) = take_key(text, out.after, b"from") else {
-        return None;
-    };
-    let Some(from) = sources(nodes, text, table, left) else {
-        return None;
-    };
-    let Some(wanted) = condition(nodes, text, from.after, b"where", left) else {
-        return None;
-    };
-    let Some(group) = groups(nodes, text, wanted.after, left) else {
-        return None;
-    };
-    let Some(keys) = orders(nodes, text, group.after, left) else {
-        return None;
-    };
-    let Some(limit) = limits(nodes, text, keys.after) else {
-        return None;
-    };
+    let select = source.take_key(at, b"select")?;
+    let distinct = distinction(source, select);
+    let out = exprs(nodes, source, distinct.after, left)?;
+    let table = source.take_key(out.after, b"from")?;
+    let from = list::<Table>(nodes, source, table, left, left)?;
+    let wanted = condition(nodes, source, from.after, b"where", left)?;
+    let group = groups(nodes, source, wanted.after, left)?;
+    let keys = orders(nodes, source, group.after, left)?;
+    let limit = limits(nodes, source, keys.after)?;
     let query = Question {
-        distinct: distinct.down,
-        grouped: group.are | out.aggregates | keys.aggregates,
-        out: out.node,
-        from: from.node,
-        wanted: wanted.node,
-        groups: group.by,
-        having: group.having,
-        keys: keys.node,
-        limit: limit.node,
+        distinct: distinct.value,
+        grouped: group.value.by.is_some() | out.value.aggregates | keys.value.aggregates,
+        out: out.value.first,
+        from: from.value,
+        wanted: wanted.value,
+        groups: group.value.by,
+        having: group.value.having,
+        keys: keys.value.first,
+        limit: limit.value,
     };
     let node = nodes.push(Node::Query(query));
-    Some(Part {
+    let value = Asked {
         node,
-        level: 0,
-        aggregates: false,
-        single: out.single,
+        single: out.value.single,
+    };
+    Some(Parsed {
+        value,
         after: limit.after,
     })
 }

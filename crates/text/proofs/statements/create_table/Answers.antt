@@ -1,25 +1,36 @@
-use Rattle.std.proofs.Common.{refl, ◌∙◌, arith}
+use Rattle.std.proofs.Common.{true, false, refl, sym, ap, ◌∙◌, arith}
 use Rattle.meaning.specs.Tree as tree
-use Rattle.grammar.specs.Reader.{is_sign}
+use Rattle.meaning.specs.Text.{Token}
+use Rattle.grammar.specs.Reader as reader
+use Rattle.grammar.specs.Reader.{is_sign, is_word}
 use Rattle.grammar.proofs.Tools.{choose_yes, choose_no, then_is, then-refused}
 use Rattle.text.specs.Cut.{tokens_at, name}
-use Rattle.text.proofs.Steps.{taken-length, name-length, ready-same}
+use Rattle.text.specs.Stands.{filled}
+use Rattle.text.proofs.Stood.{grown-none, kept}
+use Rattle.text.proofs.Steps.{taken-length, name-length}
+use Rattle.text.proofs.Columns.{name-item, name-said, names-says, says_same}
 use Rattle.text.proofs.statements.create_table.Goals as goal
 
-pub returns-in_default : goal.returns-in_default
-returns-in_default c = then-refused _ _ c.in_default.ensures
+pub returns-in_err-name : goal.returns-in_err-name
+returns-in_err-name c = let b = c.args.source.bytes.now in
+    rw c.from_residual.ensures (then-refused _ _ c.in_err-name.ensures)
 
-pub returns-in_default-take_sign : goal.returns-in_default-take_sign
-returns-in_default-take_sign c = then_is _ c.in-Some.ensures (choose_no (is_sign 40) _ _ _ c.in_default-take_sign.ensures)
+pub returns-in_err-open : goal.returns-in_err-open
+returns-in_err-open c = let b = c.args.source.bytes.now in
+    rw c.from_residual-in_err-open.ensures (then_is _ c.in_ok-name.ensures (choose_no (is_sign 40) _ _ _ c.in_err-open.ensures))
 
-pub cols-requires : goal.cols-requires
-cols-requires c = let b = c.args.text.now in let T = c.args.nodes.now in let l0 = name-length (tokens_at c.args.text.now c.args.at) (tokens_at b c.in-Some.name.after) _ c.in-Some.ensures in let l1 = taken-length (is_sign 40) (tokens_at c.args.text.now c.in-Some.name.after) (tokens_at c.args.text.now c.in-Some-take_sign.open) c.in-Some-take_sign.ensures.0 c.in-Some-take_sign.ensures.1 in ready-same b T c.args.at c.in-Some-take_sign.open c.requires (omega (arith, l0, l1))
+pub list-requires : goal.list-requires
+list-requires c = let b = c.args.source.bytes.now in
+    omega (arith, c.requires, name-length (tokens_at b c.args.at) (tokens_at b c.in_ok-name.name.after) _ c.in_ok-name.ensures, taken-length (is_sign 40) (tokens_at b c.in_ok-name.name.after) (tokens_at b c.in_ok-open.open) c.in_ok-open.ensures.0 c.in_ok-open.ensures.1)
 
-pub returns-in_default-cols : goal.returns-in_default-cols
-returns-in_default-cols c = then_is _ c.in-Some.ensures (choose_yes (is_sign 40) _ _ _ _ c.in-Some-take_sign.ensures.0 c.in-Some-take_sign.ensures.1 ∙ then-refused _ _ c.in_default-cols.ensures)
+pub returns-in_err-cols : goal.returns-in_err-cols
+returns-in_err-cols c = let b = c.args.source.bytes.now in
+    rw c.from_residual-in_err-cols.ensures (then_is _ c.in_ok-name.ensures (choose_yes (is_sign 40) _ _ _ _ c.in_ok-open.ensures.0 c.in_ok-open.ensures.1 ∙ then-refused _ _ c.in_err-cols.ensures))
 
-pub returns-in_default-take_sign-2 : goal.returns-in_default-take_sign-2
-returns-in_default-take_sign-2 c = then_is _ c.in-Some.ensures (choose_yes (is_sign 40) _ _ _ _ c.in-Some-take_sign.ensures.0 c.in-Some-take_sign.ensures.1 ∙ then_is _ c.in-Some-cols.ensures.is (choose_no (is_sign 41) _ _ _ c.in_default-take_sign-2.ensures))
+pub returns-in_err-after : goal.returns-in_err-after
+returns-in_err-after c = let b = c.args.source.bytes.now in
+    rw c.from_residual-in_err-after.ensures (then_is _ c.in_ok-name.ensures (choose_yes (is_sign 40) _ _ _ _ c.in_ok-open.ensures.0 c.in_ok-open.ensures.1 ∙ then_is _ c.in_ok-cols.ensures.is (choose_no (is_sign 41) _ _ _ c.in_err-after.ensures)))
 
 pub returns : goal.returns
-returns c = let b = c.args.text.now in let T = c.args.nodes.now in let e = c.in-Some-cols.ensures in (tree.create_table (name b c.in-Some.name.span) e.it, then_is _ c.in-Some.ensures (choose_yes (is_sign 40) _ _ _ _ c.in-Some-take_sign.ensures.0 c.in-Some-take_sign.ensures.1 ∙ then_is _ e.is (choose_yes (is_sign 41) _ _ _ _ c.in-Some-take_sign-2.ensures.0 c.in-Some-take_sign-2.ensures.1)), (_, _, refl, refl, e.stands))
+returns c = let b = c.args.source.bytes.now in let e = c.in_ok-cols.ensures in
+    (tree.create_table (name b c.in_ok-name.name.value) e.it, then_is _ c.in_ok-name.ensures (choose_yes (is_sign 40) _ _ _ _ c.in_ok-open.ensures.0 c.in_ok-open.ensures.1 ∙ then_is _ e.is (choose_yes (is_sign 41) _ _ _ _ c.in_ok-after.ensures.0 c.in_ok-after.ensures.1)), (_, _, refl, refl, e.stands _ (grown-none _)))

@@ -1,28 +1,27 @@
-use Rattle.std.proofs.Common.{refl, ◌∙◌}
+use Rattle.std.proofs.Common.{rules, true, false, refl, sym, ap, ◌∙◌, arith}
 use Rattle.meaning.specs.Tree as tree
 use Rattle.meaning.specs.Text.{k_table, k_index}
 use Rattle.grammar.specs.Reader as reader
-use Rattle.grammar.specs.Reader.{is_word}
+use Rattle.grammar.specs.Reader.{is_sign, is_word}
 use Rattle.grammar.proofs.Tools.{choose_yes, choose_no, then_is, then-refused}
-use Rattle.text.specs.Cut.{name}
+use Rattle.text.specs.Cut.{tokens_at, name}
+use Rattle.text.specs.Stands.{filled}
+use Rattle.text.proofs.Stood.{grown-none, kept}
+use Rattle.text.proofs.Steps.{taken-length, name-length}
+use Rattle.text.proofs.Columns.{name-said, names-says, names_same, says_same}
 use Rattle.text.proofs.statements.drop_one.Goals as goal
-
-pub returns-in_default-take_name : goal.returns-in_default-take_name
-unfolding reader.drop
-returns-in_default-take_name c = choose_yes (is_word k_table) _ _ _ _ c.in-Some.ensures.0 c.in-Some.ensures.1 ∙ then-refused _ _ c.in_default-take_name.ensures
 
 pub returns-in-Some : goal.returns-in-Some
 unfolding reader.drop
-returns-in-Some c = let b = c.args.text.now in (tree.drop_table (name b c.in-Some-take_name.name.span), choose_yes (is_word k_table) _ _ _ _ c.in-Some.ensures.0 c.in-Some.ensures.1 ∙ then_is _ c.in-Some-take_name.ensures refl, λ f. (_, refl, refl))
+returns-in-Some c = let b = c.args.source.bytes.now in
+    names_same b _ _ c.named.result (sym (choose_yes (is_word k_table) _ _ _ _ c.in-Some.ensures.0 c.in-Some.ensures.1)) (name-said b _ tree.drop_table (λ x s p f. (x, (search rules), refl)) _ c.named.result c.named.ensures)
 
-pub returns-in_default-take_key : goal.returns-in_default-take_key
+pub returns-in_err-index : goal.returns-in_err-index
 unfolding reader.drop
-returns-in_default-take_key c = choose_no (is_word k_table) _ _ _ c.in_default.ensures ∙ choose_no (is_word k_index) _ _ _ c.in_default-take_key.ensures
-
-pub returns-in_default-take_name-2 : goal.returns-in_default-take_name-2
-unfolding reader.drop
-returns-in_default-take_name-2 c = choose_no (is_word k_table) _ _ _ c.in_default.ensures ∙ choose_yes (is_word k_index) _ _ _ _ c.in-Some-take_key.ensures.0 c.in-Some-take_key.ensures.1 ∙ then-refused _ _ c.in_default-take_name-2.ensures
+returns-in_err-index c = let b = c.args.source.bytes.now in
+    rw c.from_residual.ensures (choose_no (is_word k_table) _ _ _ c.in_default.ensures ∙ choose_no (is_word k_index) _ _ _ c.in_err-index.ensures)
 
 pub returns : goal.returns
 unfolding reader.drop
-returns c = let b = c.args.text.now in (tree.drop_index (name b c.in-Some-take_name-2.name.span), choose_no (is_word k_table) _ _ _ c.in_default.ensures ∙ choose_yes (is_word k_index) _ _ _ _ c.in-Some-take_key.ensures.0 c.in-Some-take_key.ensures.1 ∙ then_is _ c.in-Some-take_name-2.ensures refl, λ f. (_, refl, refl))
+returns c = let b = c.args.source.bytes.now in
+    names_same b _ _ c.named-2.result (sym (choose_no (is_word k_table) _ _ _ c.in_default.ensures ∙ choose_yes (is_word k_index) _ _ _ _ c.in_ok-index.ensures.0 c.in_ok-index.ensures.1)) (name-said b _ tree.drop_index (λ x s p f. (x, (search rules), refl)) _ c.named-2.result c.named-2.ensures)

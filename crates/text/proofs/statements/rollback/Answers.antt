@@ -1,16 +1,20 @@
-use Rattle.std.proofs.Common.{refl, ◌∙◌}
+use Rattle.std.proofs.Common.{rules, true, false, refl, sym, ap, ◌∙◌, arith}
 use Rattle.meaning.specs.Tree as tree
 use Rattle.meaning.specs.Text.{k_to}
-use Rattle.grammar.specs.Reader.{is_word}
+use Rattle.grammar.specs.Reader as reader
+use Rattle.grammar.specs.Reader.{is_sign, is_word}
 use Rattle.grammar.proofs.Tools.{choose_yes, choose_no, then_is, then-refused}
-use Rattle.text.specs.Cut.{name}
+use Rattle.text.specs.Cut.{tokens_at, name}
+use Rattle.text.specs.Stands.{filled}
+use Rattle.text.proofs.Stood.{grown-none, kept}
+use Rattle.text.proofs.Steps.{taken-length, name-length}
+use Rattle.text.proofs.Columns.{name-said, names-says, names_same, says_same}
 use Rattle.text.proofs.statements.rollback.Goals as goal
 
 pub returns-in_default : goal.returns-in_default
-returns-in_default c = let b = c.args.text.now in (tree.rollback, choose_no (is_word k_to) _ _ _ c.in_default.ensures, λ f. refl)
-
-pub returns-in_default-take_name : goal.returns-in_default-take_name
-returns-in_default-take_name c = choose_yes (is_word k_to) _ _ _ _ c.in-Some.ensures.0 c.in-Some.ensures.1 ∙ then-refused _ _ c.in_default-take_name.ensures
+returns-in_default c = let b = c.args.source.bytes.now in
+    (tree.rollback, choose_no (is_word k_to) _ _ _ c.in_default.ensures, λ f. refl)
 
 pub returns : goal.returns
-returns c = let b = c.args.text.now in (tree.rollback_to (name b c.in-Some-take_name.name.span), choose_yes (is_word k_to) _ _ _ _ c.in-Some.ensures.0 c.in-Some.ensures.1 ∙ then_is _ c.in-Some-take_name.ensures refl, λ f. (_, refl, refl))
+returns c = let b = c.args.source.bytes.now in
+    names_same b _ _ c.named.result (sym (choose_yes (is_word k_to) _ _ _ _ c.in-Some.ensures.0 c.in-Some.ensures.1)) (name-said b _ tree.rollback_to (λ x s p f. (x, (search rules), refl)) _ c.named.result c.named.ensures)

@@ -1,39 +1,47 @@
-use Rattle.std.proofs.Common.{refl, ◌∙◌, arith}
+use Rattle.std.proofs.Common.{true, false, refl, sym, ap, ◌∙◌, arith}
 use Rattle.meaning.specs.Tree as tree
 use Rattle.meaning.specs.Text.{k_set}
 use Rattle.grammar.specs.Reader as reader
-use Rattle.grammar.specs.Reader.{is_word}
+use Rattle.grammar.specs.Reader.{is_sign, is_word}
 use Rattle.grammar.proofs.Tools.{choose_yes, choose_no, then_is, then-refused}
 use Rattle.text.specs.Cut.{tokens_at, name}
 use Rattle.text.specs.Stands.{filled}
-use Rattle.text.proofs.Stood.{sets-kept}
-use Rattle.text.proofs.Steps.{taken-length, name-length, ready_on, ready-same}
+use Rattle.text.proofs.Stood.{grown-none, kept}
+use Rattle.text.proofs.Steps.{taken-length, name-length}
+use Rattle.text.proofs.Columns.{name-item, name-said, names-says, says_same}
 use Rattle.text.proofs.statements.update.Goals as goal
 
-pub returns-in_default : goal.returns-in_default
+pub returns-in_err-name : goal.returns-in_err-name
 unfolding reader.update
-returns-in_default c = then-refused _ _ c.in_default.ensures
+returns-in_err-name c = let b = c.args.source.bytes.now in
+    rw c.from_residual.ensures (then-refused _ _ c.in_err-name.ensures)
 
-pub returns-in_default-take_key : goal.returns-in_default-take_key
+pub returns-in_err-set : goal.returns-in_err-set
 unfolding reader.update
-returns-in_default-take_key c = then_is _ c.in-Some.ensures (choose_no (is_word k_set) _ _ _ c.in_default-take_key.ensures)
+returns-in_err-set c = let b = c.args.source.bytes.now in
+    rw c.from_residual-in_err-set.ensures (then_is _ c.in_ok-name.ensures (choose_no (is_word k_set) _ _ _ c.in_err-set.ensures))
 
-pub sets-requires : goal.sets-requires
+pub list-requires : goal.list-requires
 unfolding reader.update
-sets-requires c = let b = c.args.text.now in let T = c.args.nodes.now in let l0 = name-length (tokens_at c.args.text.now c.args.at) (tokens_at b c.in-Some.name.after) _ c.in-Some.ensures in let l1 = taken-length (is_word k_set) (tokens_at c.args.text.now c.in-Some.name.after) (tokens_at c.args.text.now c.in-Some-take_key.set) c.in-Some-take_key.ensures.0 c.in-Some-take_key.ensures.1 in ready-same b T c.args.at c.in-Some-take_key.set c.requires (omega (arith, l0, l1))
+list-requires c = let b = c.args.source.bytes.now in
+    omega (arith, c.requires, name-length (tokens_at b c.args.at) (tokens_at b c.in_ok-name.name.after) _ c.in_ok-name.ensures, taken-length (is_word k_set) (tokens_at b c.in_ok-name.name.after) (tokens_at b c.in_ok-set.set) c.in_ok-set.ensures.0 c.in_ok-set.ensures.1)
 
-pub returns-in_default-sets : goal.returns-in_default-sets
+pub returns-in_err-sets : goal.returns-in_err-sets
 unfolding reader.update
-returns-in_default-sets c = then_is _ c.in-Some.ensures (choose_yes (is_word k_set) _ _ _ _ c.in-Some-take_key.ensures.0 c.in-Some-take_key.ensures.1 ∙ then-refused _ _ c.in_default-sets.ensures)
+returns-in_err-sets c = let b = c.args.source.bytes.now in
+    rw c.from_residual-in_err-sets.ensures (then_is _ c.in_ok-name.ensures (choose_yes (is_word k_set) _ _ _ _ c.in_ok-set.ensures.0 c.in_ok-set.ensures.1 ∙ then-refused _ _ c.in_err-sets.ensures))
 
 pub condition-requires : goal.condition-requires
 unfolding reader.update
-condition-requires c = let b = c.args.text.now in let T = c.args.nodes.now in let l0 = name-length (tokens_at c.args.text.now c.args.at) (tokens_at b c.in-Some.name.after) _ c.in-Some.ensures in let l1 = taken-length (is_word k_set) (tokens_at c.args.text.now c.in-Some.name.after) (tokens_at c.args.text.now c.in-Some-take_key.set) c.in-Some-take_key.ensures.0 c.in-Some-take_key.ensures.1 in let e = c.in-Some-sets.ensures in ready_on b T c.sets.new.nodes c.args.at c.in-Some-sets.list.after c.requires e.grown (omega (arith, l0, l1, e.few))
+condition-requires c = let b = c.args.source.bytes.now in
+    omega (arith, c.requires, name-length (tokens_at b c.args.at) (tokens_at b c.in_ok-name.name.after) _ c.in_ok-name.ensures, taken-length (is_word k_set) (tokens_at b c.in_ok-name.name.after) (tokens_at b c.in_ok-set.set) c.in_ok-set.ensures.0 c.in_ok-set.ensures.1, c.in_ok-sets.ensures.few)
 
-pub returns-in_default-condition : goal.returns-in_default-condition
+pub returns-in_err-wanted : goal.returns-in_err-wanted
 unfolding reader.update
-returns-in_default-condition c = then_is _ c.in-Some.ensures (choose_yes (is_word k_set) _ _ _ _ c.in-Some-take_key.ensures.0 c.in-Some-take_key.ensures.1 ∙ then_is _ c.in-Some-sets.ensures.is (then-refused _ _ c.in_default-condition.ensures))
+returns-in_err-wanted c = let b = c.args.source.bytes.now in
+    rw c.from_residual-in_err-wanted.ensures (then_is _ c.in_ok-name.ensures (choose_yes (is_word k_set) _ _ _ _ c.in_ok-set.ensures.0 c.in_ok-set.ensures.1 ∙ then_is _ c.in_ok-sets.ensures.is (then-refused _ _ c.in_err-wanted.ensures)))
 
 pub returns : goal.returns
 unfolding reader.update
-returns c = let b = c.args.text.now in let T = c.args.nodes.now in let e = c.in-Some-sets.ensures in let w = c.in-Some-condition.ensures in (tree.update (name b c.in-Some.name.span) e.it w.it, then_is _ c.in-Some.ensures (choose_yes (is_word k_set) _ _ _ _ c.in-Some-take_key.ensures.0 c.in-Some-take_key.ensures.1 ∙ then_is _ e.is (then_is _ w.is refl)), (_, _, _, refl, refl, sets-kept b e.it (filled c.sets.new.nodes) (filled c.condition.new.nodes) w.grown _ e.stands, w.stands))
+returns c = let b = c.args.source.bytes.now in let e = c.in_ok-sets.ensures in let w = c.in_ok-wanted.ensures in
+    (tree.update (name b c.in_ok-name.name.value) e.it w.it, then_is _ c.in_ok-name.ensures (choose_yes (is_word k_set) _ _ _ _ c.in_ok-set.ensures.0 c.in_ok-set.ensures.1 ∙ then_is _ e.is (then_is _ w.is refl)), (_, _, _, refl, refl, e.stands (filled c.condition.new.nodes) w.grown, w.stands))

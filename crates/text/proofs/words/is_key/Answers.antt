@@ -1,12 +1,10 @@
-use Rattle.std.proofs.Common.{sym, ◌∙◌, arith}
-use Rattle.text.proofs.Names.{key-same, key-long, key-other}
+use Rattle.std.proofs.Common.{length, sym, ◌∙◌}
+use Rattle.std.proofs.lemmas.Bool.{ne_eqb}
+use Rattle.text.proofs.Names.{key-zip, key-long}
 use Rattle.text.proofs.words.is_key.Goals as goal
 
 pub returns-then-word-key : goal.returns-then-word-key
-returns-then-word-key c = sym (key-long _ _ c.if-word-key.true)
+returns-then-word-key c = c.same_letters.ensures ∙ key-zip c.args.word.now c.args.key.now c.if-word-key.true
 
-pub returns-then-small_of-key : goal.returns-then-small_of-key
-returns-then-small_of-key c = sym (key-other _ _ c.loop-i.i c.loop-i-test.true (λ e. c.if-small_of-key.true (c.small_of.ensures ∙ e)))
-
-pub returns : goal.returns
-returns c = sym (key-same _ _ c.if-word-key.false (λ i l. c.loop-i.invariant i (omega arith)))
+pub returns-else-word-key : goal.returns-else-word-key
+returns-else-word-key c = ne_eqb (length c.args.word.now) (length c.args.key.now) c.if-word-key.false ∙ sym (key-long c.args.word.now c.args.key.now c.if-word-key.false)

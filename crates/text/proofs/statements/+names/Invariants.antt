@@ -1,4 +1,0 @@
-use Rattle.text.proofs.statements.+names.Given as goal
-
-abbrev pub decreases-names : goal.decreases-names
-decreases-names l = l.left
