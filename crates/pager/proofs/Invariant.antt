@@ -1,14 +1,13 @@
 -- What holds of the pager, its device and the model's state, phase by phase.
-use Rattle.std.proofs.Common.{◌≡◌, ℕ, ◌+◌, ◌*◌, ◌/◌, ◌%◌, ◌<◌, ◌≤◌, Bool, true, false, cond, not, ◌&&◌, eqb, leb, List, [], ◌∷◌, length, get_or, take, Vec, vec_items, sym, refl, ap, ◌∙◌, arith, eq-eqb, eqb-true}
-use borrow.Author.Tests.{eqb-false}
-use Rattle.std.proofs.lemmas.Bool.{le-leb, leb-true}
+use Rattle.std.proofs.Common.{◌≡◌, ℕ, ◌+◌, ◌*◌, ◌/◌, ◌%◌, ◌<◌, ◌≤◌, Bool, false, ◌&&◌, leb, List, [], ◌∷◌, length, get_or, take, Vec, vec_items, sym, refl, ap, ◌∙◌, arith}
+use Rattle.std.proofs.lemmas.Grind.{common_steps}
 use Rattle.device.specs.Device.{Device, shown, AfterCut, With}
 use Rattle.device.proofs.Sectors.{Quiet}
 use Rattle.octets.specs.Parts.{blank}
 use Rattle.shadow.specs.Layout.{other, area_at, slot_at, area_in, entry_in, page_in, gather, updated, Free}
 use Rattle.shadow.proofs.Pages.{Laid}
 use Rattle.shadow.proofs.Shadow.{Body, Low, low-cut, Above, Behind, Filled}
-use Rattle.shadow.proofs.Count.{no_room, moved, moved-of, true-and, false-and}
+use Rattle.shadow.proofs.Count.{no_room, moved}
 use Rattle.pager.specs.Steps.{bs, ws, os, ys, hs, held, Same, Sizes}
 use Rattle.pager.specs.Model.{Held, undone, changed, cleared, Crowded}
 use Rattle.pager.specs.declared.state.Call.{Call}
@@ -45,11 +44,7 @@ abbrev pub owns : ℕ → ℕ → Bool
 owns v u = leb 1 v && moved v u
 
 pub not_own : (v u : ℕ) → (1 ≤ v → v ≡ u) → owns v u ≡ false
-not_own v u h = by (leb 1 v) refl
-  where
-    by : (c : Bool) → leb 1 v ≡ c → owns v u ≡ false
-    by true e = false-and (leb 1 v) (moved v u) (ap not (eq-eqb v u (h (leb-true 1 v e))))
-    by false e = ap (λ x. x && moved v u) e
+not_own v u h = grind (arith, common_steps, h)
 
 module _ (N M S : ℕ) (few : N ≤ 64 * M) where
   pub record Fixed (m : Pager) : Type 0 where
@@ -67,28 +62,18 @@ module _ (N M S : ℕ) (few : N ≤ 64 * M) where
     pub given : (p : ℕ) → p < N → s.given p ≡ owns (w p) (b p)
 
   pub lived-put : (s : Held) (b w w' : ℕ → ℕ) (p slot : ℕ) (v : List ℕ) → 1 ≤ slot → ((q : ℕ) → q < N → b q ≡ slot → ⊥) → w' p ≡ slot → ((q : ℕ) → (q ≡ p → ⊥) → w' q ≡ w q) → Lived s b w → Lived (changed p v s) b w'
-  lived-put s b w w' p slot v one free here rest h = record { live = h.live; has = λ q l. has-by q l (eqb q p) refl; given = λ q l. given_by q l (eqb q p) refl }
-    where
-      has-by : (q : ℕ) → q < N → (t : Bool) → eqb q p ≡ t → cond t true (s.has q) ≡ leb 1 (w' q)
-      has-by q l true e = let z : w' q ≡ slot = ap w' (eqb-true q p e) ∙ here in sym (le-leb 1 (w' q) (omega arith))
-      has-by q l false e = h.has q l ∙ ap (leb 1) (sym (rest q (eqb-false q p e)))
-
-      given_by : (q : ℕ) → q < N → (t : Bool) → eqb q p ≡ t → cond t true (s.given q) ≡ owns (w' q) (b q)
-      given_by q l true e =
-          let z : w' q ≡ slot = ap w' (eqb-true q p e) ∙ here in
-          sym (true-and (leb 1 (w' q)) (moved (w' q) (b q)) (le-leb 1 (w' q) (omega arith)) (moved-of (w' q) (b q) (λ k. free q l (sym k ∙ z))))
-      given_by q l false e = h.given q l ∙ ap (λ x. owns x (b q)) (sym (rest q (eqb-false q p e)))
+  lived-put s b w w' p slot v one free here rest h = record {
+    live = h.live;
+    has = λ q l. grind (arith, common_steps, rest q, h.has q l);
+    given = λ q l. grind (arith, common_steps, rest q, free q l, h.given q l);
+  }
 
   pub lived-clear : (s : Held) (b w w' : ℕ → ℕ) (p : ℕ) → w' p ≡ 0 → ((q : ℕ) → (q ≡ p → ⊥) → w' q ≡ w q) → Lived s b w → Lived (cleared p s) b w'
-  lived-clear s b w w' p here rest h = record { live = h.live; has = λ q l. has-by q l (eqb q p) refl; given = λ q l. given_by q l (eqb q p) refl }
-    where
-      has-by : (q : ℕ) → q < N → (t : Bool) → eqb q p ≡ t → cond t false (s.has q) ≡ leb 1 (w' q)
-      has-by q l true e = sym (ap (leb 1) (ap w' (eqb-true q p e) ∙ here))
-      has-by q l false e = h.has q l ∙ ap (leb 1) (sym (rest q (eqb-false q p e)))
-
-      given_by : (q : ℕ) → q < N → (t : Bool) → eqb q p ≡ t → cond t false (s.given q) ≡ owns (w' q) (b q)
-      given_by q l true e = let z : w' q ≡ 0 = ap w' (eqb-true q p e) ∙ here in sym (not_own (w' q) (b q) (λ o. absurd (omega arith)))
-      given_by q l false e = h.given q l ∙ ap (λ x. owns x (b q)) (sym (rest q (eqb-false q p e)))
+  lived-clear s b w w' p here rest h = record {
+    live = h.live;
+    has = λ q l. grind (arith, common_steps, rest q, h.has q l);
+    given = λ q l. grind (arith, common_steps, rest q, h.given q l);
+  }
 
   -- right after an undo, a commit, coming up
   pub lived-same : (s : Held) (b w : ℕ → ℕ) → ((p : ℕ) → p < N → s.live p ≡ leb 1 (b p)) → ((p : ℕ) → p < N → s.has p ≡ leb 1 (b p)) → ((p : ℕ) → s.given p ≡ false) → ((p : ℕ) → p < N → w p ≡ b p) → Lived s b w
@@ -98,8 +83,7 @@ module _ (N M S : ℕ) (few : N ≤ 64 * M) where
   crowded s b w o p l own none h = record {
     inside = l;
     wants = h.given p l ∙ not_own (w p) (b p) own;
-    taken = no_room N S b w o s.live s.given (λ q i one. h.live q i ∙ le-leb 1 (b q) one)
-        (λ q i one ne. h.given q i ∙ true-and (leb 1 (w q)) (moved (w q) (b q)) (le-leb 1 (w q) one) (moved-of (w q) (b q) ne)) none;
+    taken = no_room N S b w o s.live s.given (λ q i one. grind (arith, common_steps, h.live q i)) (λ q i one ne. grind (arith, common_steps, h.given q i, ne)) none;
   }
 
   -- THE INVARIANT

@@ -1,6 +1,7 @@
 -- The pager as it comes up: what a step does to the invariant.
 use Rattle.std.proofs.Common.{◌≡◌, ℕ, ◌+◌, ◌*◌, ◌/◌, ◌%◌, ◌<◌, ◌≤◌, Bool, true, false, eqb, leb, List, get_or, vec_items, sym, refl, ap, ◌∙◌, subst, inl, inr, arith, eqb-true}
 use borrow.Author.Tests.{eqb-false}
+use Rattle.std.proofs.lemmas.Grind.{common_steps}
 use Rattle.device.specs.Device.{Device, shown}
 use Rattle.device.proofs.Sectors.{shown-calm}
 use Rattle.device.proofs.Standing.{Then}
@@ -48,16 +49,10 @@ module _ (N M S : ℕ) (few : N ≤ 64 * M) where
           flags = λ p a b c. absurd (omega arith);
         })))
 
-    entries-more : (r : Asking) (i : ℕ) → Read-to N M S few i off.area off.map m → g ≡ d.kept (area_at M off.area i) → LoadAt M S i m g r n → (p : ℕ) → p < N → p < 64 * (i + 1) → (t : Bool) → eqb (p / 64) i ≡ t → bs n p ≡ off.map p
-    entries-more r i h e x p l q true t =
-        let u = eqb-true (p / 64) i t in
-        x.here p u ∙ ap (λ v. entry_in S v (p % 64)) (e ∙ ap (λ j. d.kept (area_at M off.area j)) (sym u)) ∙ off.low.body.map p l
-    entries-more r i h e x p l q false t = let u = eqb-false (p / 64) i t in let v : p < 64 * i = omega (arith, u) in x.rest p v ∙ h.entries p l v
-
     at-loading : (r : Asking) (i : ℕ) → Read-to N M S few i off.area off.map m → i < M → g ≡ d.kept (area_at M off.area i) → LoadAt M S i m g r n → Climbs r
     unfolding Climbs
     at-loading r i h b e x =
-        rw x.ask (λ j. rising-at (Fetch (i + 1)) j x.phase (record { upto = omega arith; second = x.second ∙ h.second; entries = λ p l q. entries-more r i h e x p l q (eqb (p / 64) i) refl }))
+        rw x.ask (λ j. rising-at (Fetch (i + 1)) j x.phase (record { upto = omega arith; second = x.second ∙ h.second; entries = λ p l q. grind (arith, common_steps, x.rest p, x.here p, h.entries p l, off.low.body.map p l, e) }))
 
     at-check : (r : Asking) (i : ℕ) → Of (Compared N M S few i s d) m → CheckAt M i m r n → Climbs r
     unfolding Climbs

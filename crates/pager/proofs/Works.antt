@@ -1,7 +1,8 @@
 -- The pager at work: what a step at a call does to the invariant.
-use Rattle.std.proofs.Common.{◌≡◌, ℕ, ◌+◌, ◌*◌, ◌/◌, ◌<◌, ◌≤◌, Bool, true, false, cond, eqb, leb, ◌⊎◌, Option, Some, None, List, ◌∷◌, ◌++◌, length, get_or, take, vec_items, sym, refl, ap, ◌∙◌, subst, inl, inr, arith, get_or-set_other, get_or-set_same}
+use Rattle.std.proofs.Common.{◌≡◌, ℕ, ◌+◌, ◌*◌, ◌/◌, ◌<◌, ◌≤◌, Bool, false, cond, eqb, leb, ◌⊎◌, Option, Some, None, List, ◌∷◌, ◌++◌, length, get_or, take, vec_items, sym, refl, ap, ◌∙◌, subst, inl, inr, arith, get_or-set_other, get_or-set_same}
 use Rattle.std.proofs.lemmas.List.{take_all}
 use Rattle.std.proofs.lemmas.Bool.{le-leb, or_parts}
+use Rattle.std.proofs.lemmas.Grind.{common_steps}
 use Rattle.device.specs.Device.{Device, latest, shown, written, synced, With, and}
 use Rattle.device.specs.declared.Ask.TheVariants.{Write, Sync, Answer}
 use Rattle.device.proofs.Sectors.{since-same}
@@ -72,10 +73,6 @@ use Rattle.pager.proofs.Invariant.{
   Busy,
   Ready,
 }
-
-cond-cond : {A : Type 0} (t : Bool) (x y z : A) → cond t x (cond t y z) ≡ cond t x z
-cond-cond true x y z = refl
-cond-cond false x y z = refl
 
 module _ (N M S : ℕ) (few : N ≤ 64 * M) where
   -- a page has a slot that may be written to; what it holds is whatever that shows
@@ -160,17 +157,15 @@ module _ (N M S : ℕ) (few : N ≤ 64 * M) where
     -- another entry in the present map
     module _ (p e : ℕ) (i : p < N) (x : Entered p e m n) where
       entered_here : ws n p ≡ e
-      entered_here = ap (λ (v : List ℕ). get_or v p 0) x.present ∙ get_or-set_same (vec_items m.present) p e 0 (omega (arith, m.plen, m.present.ok.0, old.maps, few))
+      entered_here = grind (arith, common_steps, x.present, m.plen, m.present.ok.0, old.maps, few)
 
       entered-rest : (q : ℕ) → (q ≡ p → ⊥) → ws n q ≡ ws m q
-      entered-rest q ne = ap (λ (v : List ℕ). get_or v q 0) x.present ∙ get_or-set_other (vec_items m.present) p q e 0 ne
+      entered-rest q ne = grind (arith, common_steps, x.present, ne)
 
       entered-flag : (q : ℕ) → q < N → ys n (q / 64) ≡ false → (q ≡ p → ⊥) × (ys m (q / 64) ≡ false)
       entered-flag q l z =
-          let up : ys n (p / 64) ≡ true = ap (λ (v : List Bool). get_or v (p / 64) false) x.dirty ∙ get_or-set_same (vec_items m.dirty) (p / 64) true false (omega (arith, m.dlen, m.dirty.ok.0, old.maps, few)) in
-          let keep : (j : ℕ) → (j ≡ p / 64 → ⊥) → ys n j ≡ ys m j = λ j ne. ap (λ (v : List Bool). get_or v j false) x.dirty ∙ get_or-set_other (vec_items m.dirty) (p / 64) j true false ne in
-          let no_same : q / 64 ≡ p / 64 → ⊥ = λ w. let v : true ≡ false = sym up ∙ ap (ys n) (sym w) ∙ z in let u : ◌≡◌ {A = ℕ} 0 1 = cc in omega arith in
-          (λ w. no_same (ap (λ t. t / 64) w), sym (keep (q / 64) no_same) ∙ z)
+          let apart : q / 64 ≡ p / 64 → ⊥ = λ w. grind (arith, common_steps, x.dirty, z, m.dlen, m.dirty.ok.0, old.maps, few) in
+          (λ w. apart (ap (λ t. t / 64) w), grind (arith, common_steps, x.dirty, z, apart))
 
     slot-given : (p slot : ℕ) → p < N → Of (Stand N M S few s d) m → Given N S p m slot n → Of (Slotted p slot s d) n
     slot-given p slot i h x =
@@ -255,8 +250,7 @@ module _ (N M S : ℕ) (few : N ≤ 64 * M) where
 
     at-undo : (r : Asking) → Undo ≡ c.it → Of (Stand N M S few s d) m → UndoAt M m r n → Works r
     at-undo r e h x =
-        let back : (p : ℕ) → p < N → (t : Bool) → ys m (p / 64) ≡ t → cond t (bs m p) (ws m p) ≡ bs m p = λ p l t z. back_by p l t z in
-        let eq : (p : ℕ) → p < N → ws n p ≡ bs m p = λ p l. x.present p (omega arith) ∙ back p l (ys m (p / 64)) refl in
+        let eq : (p : ℕ) → p < N → ws n p ≡ bs m p = λ p l. grind (arith, common_steps, x.present p (omega arith), h.above.dirty p l) in
         answers Undo r Done (undone s) e x.ask (undoes c.bytes (held n) s) (record {
           fixed = fixed;
           stand = view-moved (Stand N M S few (undone s) d) x.second (as-map x.base) refl (as-map x.owner) refl (as-flags x.behind) (record {
@@ -266,10 +260,6 @@ module _ (N M S : ℕ) (few : N ≤ 64 * M) where
             lived = lived-same N M S few (undone s) (bs m) (ws n) h.lived.live h.lived.live (λ p. refl) eq;
           });
         })
-      where
-        back_by : (p : ℕ) → p < N → (t : Bool) → ys m (p / 64) ≡ t → cond t (bs m p) (ws m p) ≡ bs m p
-        back_by p l true z = refl
-        back_by p l false z = h.above.dirty p l z
 
     at_call : (r : Asking) (e : Call) → e ≡ c.it → Told N M S few e c.bytes (held m) → Of (Stand N M S few s d) m → CallAt N M S e m r n → Works r
     unfolding Works
@@ -351,7 +341,7 @@ module _ (N M S : ℕ) (few : N ≤ 64 * M) where
           laid = subst (λ t. Laid (slot_at M e) t (j + 1) f) (sym pg) (laid_more (slot_at M e) j (held m) v d x.bytes h.laid);
           low = low-slot N M S few m.second (bs m) s.base d e j v h.one x.less h.free h.low;
           above = above_as N M S few (bs m) (ws m) (os m) (ys m) (updated p (page_in M (shown f) e) (updated p (page_in M (shown d) e) s.now)) (updated p (page_in M (shown f) e) s.now) f
-              (λ q l. cond-cond (eqb q p) (page_in M (shown f) e) (page_in M (shown d) e) (s.now q))
+              (λ q l. grind (arith, common_steps))
               (above-put N M S few (bs m) (ws m) (os m) (ws m) (os m) (ys m) (ys m) (updated p (page_in M (shown d) e) s.now) d f p e h.one h.fits
               (λ t ne. page-write M e t j v d h.one x.less ne) h.free alone h.slot (λ q _. refl) owned (λ t _. refl)
               (λ q l t. (λ same. h.free p h.inside (sym (subst (λ z. ws m z ≡ bs m z) same (h.above.dirty q l t)) ∙ h.slot), t)) h.above);
@@ -438,7 +428,7 @@ module _ (N M S : ℕ) (few : N ≤ 64 * M) where
 
     at-sealed : (r : Asking) → Of (InSealed N M S few c s d) m → SealAt M m r n → Works r
     at-sealed r h x =
-        let eq : (p : ℕ) → p < N → ws m p ≡ bs n p = λ p l. sym (x.base p (omega arith) ∙ on-by p l (ys m (p / 64)) refl) in
+        let eq : (p : ℕ) → p < N → ws m p ≡ bs n p = λ p l. grind (arith, common_steps, x.base p (omega arith), h.above.dirty p l) in
         let present : ws n ≡ ws m = as-map x.present in
         let owner : os n ≡ os m = as-map x.owner in
         let behind : hs n ≡ ys m = ap (λ v p. get_or v p false) x.behind in
@@ -453,10 +443,6 @@ module _ (N M S : ℕ) (few : N ≤ 64 * M) where
             lived = lived-same N M S few (committed s) (bs n) (ws m) live live (λ p. refl) eq;
           });
         })
-      where
-        on-by : (p : ℕ) → p < N → (t : Bool) → ys m (p / 64) ≡ t → cond t (ws m p) (bs m p) ≡ ws m p
-        on-by p l true z = refl
-        on-by p l false z = sym (h.above.dirty p l z)
 
     pub work : (r : Asking) (p : Phase) → Of (BusyAt N M S few p c s (held m) g d) m → PhaseAt N M S p m g r n → Works r
     work r Opening h x = absurd h

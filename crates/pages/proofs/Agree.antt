@@ -1,7 +1,7 @@
 -- The pager's state, the frames and the pages: what they have to do with each other, and what a change of a frame does to that. No device is in here.
-use Rattle.std.proofs.Common.{◌≡◌, ℕ, zero, suc, ◌+◌, ◌<◌, ◌≤◌, Bool, true, false, cond, not, ◌&&◌, eqb, List, [], ◌∷◌, length, sym, refl, ap, ◌∙◌, subst, arith, eq-eqb, ne_eqb, eqb-true}
-use borrow.Author.Tests.{eqb-false}
+use Rattle.std.proofs.Common.{◌≡◌, ℕ, zero, suc, ◌+◌, ◌<◌, ◌≤◌, Bool, true, false, cond, not, ◌&&◌, eqb, List, [], ◌∷◌, length, sym, refl, ap, ◌∙◌, arith, eq-eqb, ne_eqb, eqb-true}
 use Rattle.std.proofs.lemmas.Bool.{and_parts, not-true, true≢false}
+use Rattle.std.proofs.lemmas.Grind.{common_steps}
 use Rattle.device.specs.Device.{zeros}
 use Rattle.octets.specs.Parts.{blank}
 use Rattle.shadow.specs.Layout.{blank_page, updated, count}
@@ -69,64 +69,16 @@ module _ (N : ℕ) where
   -- A FRAME IS ANOTHER PAGE'S, or nobody's: of the frame f of page p
   module _ (p : ℕ) (i : p < N) (g g' : ℕ → ℕ) (z z' : ℕ → Bool) (r r' : ℕ → List ℕ) (s : Held) (t : Pages)
       (tags : (f : ℕ) → (f ≡ frame_of p → ⊥) → g' f ≡ g f) (flags : (f : ℕ) → (f ≡ frame_of p → ⊥) → z' f ≡ z f) (rows : (f : ℕ) → (f ≡ frame_of p → ⊥) → r' f ≡ r f) where
-    other-frame : (q : ℕ) → (frame_of q ≡ frame_of p → ⊥) → q ≡ p → ⊥
-    other-frame q n e = n (ap frame_of e)
-
     -- it is page p's, with what that is to be
     module _ (tag : g' (frame_of p) ≡ p + 1) (bytes : r' (frame_of p) ≡ t.now p) (own : z' (frame_of p) ≡ true → s.given p ≡ true) (same : z' (frame_of p) ≡ false → s.now p ≡ t.now p)
         (old : z (frame_of p) ≡ true → g (frame_of p) ≡ p + 1) (h : Cache (λ q. q ≡ p) g z r s t) where
-      fill-inside : (f q : ℕ) → g' f ≡ q + 1 → (b : Bool) → eqb f (frame_of p) ≡ b → (q < N) × (frame_of q ≡ f)
-      fill-inside f q e true k =
-          let y = eqb-true f (frame_of p) k in
-          let x : q ≡ p = let u : g' f ≡ p + 1 = ap g' y ∙ tag in omega arith in
-          (omega arith, ap frame_of x ∙ sym y)
-      fill-inside f q e false k = h.inside f q (sym (tags f (eqb-false f (frame_of p) k)) ∙ e)
-
-      fill-tagged : (f : ℕ) → z' f ≡ true → (b : Bool) → eqb f (frame_of p) ≡ b → 1 ≤ g' f
-      fill-tagged f e true k = let u : g' f ≡ p + 1 = ap g' (eqb-true f (frame_of p) k) ∙ tag in omega arith
-      fill-tagged f e false k =
-          let n = eqb-false f (frame_of p) k in
-          let u = h.tagged f (sym (flags f n) ∙ e) in
-          let v = tags f n in
-          omega arith
-
-      fill_holds : (q : ℕ) → q < N → g' (frame_of q) ≡ q + 1 → (b : Bool) → eqb (frame_of q) (frame_of p) ≡ b → r' (frame_of q) ≡ t.now q
-      fill_holds q l e true k =
-          let y = eqb-true (frame_of q) (frame_of p) k in
-          let x : q ≡ p = let u : g' (frame_of q) ≡ p + 1 = ap g' y ∙ tag in omega arith in
-          ap r' y ∙ bytes ∙ ap t.now (sym x)
-      fill_holds q l e false k =
-          let n = eqb-false (frame_of q) (frame_of p) k in
-          rows (frame_of q) n ∙ h.holds q l (other-frame q n) (sym (tags (frame_of q) n) ∙ e)
-
-      fill-own : (q : ℕ) → q < N → g' (frame_of q) ≡ q + 1 → z' (frame_of q) ≡ true → (b : Bool) → eqb (frame_of q) (frame_of p) ≡ b → s.given q ≡ true
-      fill-own q l e d true k =
-          let y = eqb-true (frame_of q) (frame_of p) k in
-          let x : q ≡ p = let u : g' (frame_of q) ≡ p + 1 = ap g' y ∙ tag in omega arith in
-          ap s.given x ∙ own (ap z' (sym y) ∙ d)
-      fill-own q l e d false k =
-          let n = eqb-false (frame_of q) (frame_of p) k in
-          h.own q l (other-frame q n) (sym (tags (frame_of q) n) ∙ e) (sym (flags (frame_of q) n) ∙ d)
-
-      -- a page of this frame that is not p was not stale in it
-      fill-cold : (q : ℕ) → q < N → (g' (frame_of q) ≡ q + 1 → z' (frame_of q) ≡ true → ⊥) → (b : Bool) → eqb (frame_of q) (frame_of p) ≡ b → (c : Bool) → eqb q p ≡ c → (d : Bool) → z' (frame_of p) ≡ d → s.now q ≡ t.now q
-      fill-cold q l e b k true j true x = let y = eqb-true q p j in absurd (e (ap g' (ap frame_of y) ∙ tag ∙ (let u : p + 1 ≡ q + 1 = omega arith in u)) (ap z' (ap frame_of y) ∙ x))
-      fill-cold q l e b k true j false x = let y = eqb-true q p j in ap s.now y ∙ same x ∙ ap t.now (sym y)
-      fill-cold q l e true k false j d x =
-          let n = eqb-false q p j in
-          let y = eqb-true (frame_of q) (frame_of p) k in
-          h.cold q l n (λ u v. n (let w : g (frame_of p) ≡ p + 1 = old (ap z (sym y) ∙ v) in let w' : g (frame_of p) ≡ q + 1 = ap g (sym y) ∙ u in omega arith))
-      fill-cold q l e false k false j d x =
-          let n = eqb-false (frame_of q) (frame_of p) k in
-          h.cold q l (other-frame q n) (λ u v. e (tags (frame_of q) n ∙ u) (flags (frame_of q) n ∙ v))
-
       pub cache-fill : Cache NoPage g' z' r' s t
       cache-fill = record {
-        inside = λ f q e. fill-inside f q e (eqb f (frame_of p)) refl;
-        tagged = λ f e. fill-tagged f e (eqb f (frame_of p)) refl;
-        holds = λ q l n e. fill_holds q l e (eqb (frame_of q) (frame_of p)) refl;
-        own = λ q l n e d. fill-own q l e d (eqb (frame_of q) (frame_of p)) refl;
-        cold = λ q l n e. fill-cold q l e (eqb (frame_of q) (frame_of p)) refl (eqb q p) refl (z' (frame_of p)) refl;
+        inside = λ f q e. grind (arith, common_steps, tags f, h.inside f q, e);
+        tagged = λ f e. grind (arith, common_steps, tags f, flags f, h.tagged f, e);
+        holds = λ q l n e. grind (arith, common_steps, tags (frame_of q), rows (frame_of q), h.holds q l, e);
+        own = λ q l n e d. grind (arith, common_steps, tags (frame_of q), flags (frame_of q), h.own q l, own, e, d);
+        cold = λ q l n e. grind (arith, common_steps, tags (frame_of q), flags (frame_of q), h.cold q l, same, old, e);
       }
 
   -- the frame of p is nobody's, and the pager has page p as it is to be
@@ -136,35 +88,13 @@ module _ (N : ℕ) where
     apart : (q : ℕ) → g' (frame_of q) ≡ q + 1 → frame_of q ≡ frame_of p → ⊥
     apart q e y = let u : g' (frame_of q) ≡ 0 = ap g' y ∙ tag in omega arith
 
-    leave-cold : (q : ℕ) → q < N → (g' (frame_of q) ≡ q + 1 → z' (frame_of q) ≡ true → ⊥) → (b : Bool) → eqb (frame_of q) (frame_of p) ≡ b → (c : Bool) → eqb q p ≡ c → s.now q ≡ t.now q
-    leave-cold q l e b k true j = let y = eqb-true q p j in ap s.now y ∙ same (omega arith) ∙ ap t.now (sym y)
-    leave-cold q l e true k false j =
-        let n = eqb-false q p j in
-        let y = eqb-true (frame_of q) (frame_of p) k in
-        h.cold q l n (λ u v. n (let w : g (frame_of p) ≡ p + 1 = old (ap z (sym y) ∙ v) in let w' : g (frame_of p) ≡ q + 1 = ap g (sym y) ∙ u in omega arith))
-    leave-cold q l e false k false j =
-        let n = eqb-false (frame_of q) (frame_of p) k in
-        h.cold q l (λ y. n (ap frame_of y)) (λ u v. e (tags (frame_of q) n ∙ u) (flags (frame_of q) n ∙ v))
-
-    leave-inside : (f q : ℕ) → g' f ≡ q + 1 → (b : Bool) → eqb f (frame_of p) ≡ b → (q < N) × (frame_of q ≡ f)
-    leave-inside f q e true k = let u : g' f ≡ 0 = ap g' (eqb-true f (frame_of p) k) ∙ tag in absurd (omega arith)
-    leave-inside f q e false k = h.inside f q (sym (tags f (eqb-false f (frame_of p) k)) ∙ e)
-
-    leave-tagged : (f : ℕ) → z' f ≡ true → (b : Bool) → eqb f (frame_of p) ≡ b → 1 ≤ g' f
-    leave-tagged f e true k = absurd (true≢false (sym e ∙ ap z' (eqb-true f (frame_of p) k) ∙ flag))
-    leave-tagged f e false k =
-        let n = eqb-false f (frame_of p) k in
-        let u = h.tagged f (sym (flags f n) ∙ e) in
-        let v = tags f n in
-        omega arith
-
     pub cache-leave : Cache NoPage g' z' r' s t
     cache-leave = record {
-      inside = λ f q e. leave-inside f q e (eqb f (frame_of p)) refl;
-      tagged = λ f e. leave-tagged f e (eqb f (frame_of p)) refl;
+      inside = λ f q e. grind (arith, common_steps, tags f, h.inside f q, e);
+      tagged = λ f e. grind (arith, common_steps, tags f, flags f, h.tagged f, e);
       holds = λ q l n e. rows (frame_of q) (apart q e) ∙ h.holds q l (λ y. apart q e (ap frame_of y)) (sym (tags (frame_of q) (apart q e)) ∙ e);
       own = λ q l n e d. h.own q l (λ y. apart q e (ap frame_of y)) (sym (tags (frame_of q) (apart q e)) ∙ e) (sym (flags (frame_of q) (apart q e)) ∙ d);
-      cold = λ q l n e. leave-cold q l e (eqb (frame_of q) (frame_of p)) refl (eqb q p) refl;
+      cold = λ q l n e. grind (arith, common_steps, tags (frame_of q), flags (frame_of q), h.cold q l, same, old, e);
     }
 
   -- a page that is in no frame, and that the pager has
@@ -172,14 +102,10 @@ module _ (N : ℕ) where
   cache-plain p g z r s t n same h = record {
     inside = h.inside;
     tagged = h.tagged;
-    holds = λ q l _ e. h.holds q l (λ y. n (subst (λ k. g (frame_of k) ≡ k + 1) y e)) e;
-    own = λ q l _ e d. h.own q l (λ y. n (subst (λ k. g (frame_of k) ≡ k + 1) y e)) e d;
-    cold = λ q l _ e. by q l e (eqb q p) refl;
+    holds = λ q l _ e. grind (arith, common_steps, h.holds q l, n, e);
+    own = λ q l _ e d. grind (arith, common_steps, h.own q l, n, e, d);
+    cold = λ q l _ e. grind (arith, common_steps, h.cold q l, same, e);
   }
-    where
-      by : (q : ℕ) → q < N → (g (frame_of q) ≡ q + 1 → z (frame_of q) ≡ true → ⊥) → (c : Bool) → eqb q p ≡ c → s.now q ≡ t.now q
-      by q l e true j = let y = eqb-true q p j in ap s.now y ∙ same (omega arith) ∙ ap t.now (sym y)
-      by q l e false j = h.cold q l (eqb-false q p j) e
 
   pub cache-weak : (p : ℕ) (g : ℕ → ℕ) (z : ℕ → Bool) (r : ℕ → List ℕ) (s : Held) (t : Pages) → Cache NoPage g z r s t → Cache (λ q. q ≡ p) g z r s t
   cache-weak p g z r s t h = cache-but p g z r s s t t (record { given = λ q n. refl; below = λ q n. refl; above = λ q n. refl }) h
@@ -196,27 +122,13 @@ module _ (N : ℕ) where
     pub wrote-own : s.given q ≡ true
     wrote-own = let (l, e) = wrote-in in h.own q l but (ap g e ∙ tag) (ap z e ∙ stale)
 
-    wrote-cold : (p : ℕ) → p < N → (E p → ⊥) → (g (frame_of p) ≡ p + 1 → z' (frame_of p) ≡ true → ⊥) → (b : Bool) → eqb p q ≡ b → (c : Bool) → eqb (frame_of p) f ≡ c → cond b (r f) (s.now p) ≡ t.now p
-    wrote-cold p l n e true k c j = wrote-holds ∙ ap t.now (sym (eqb-true p q k))
-    wrote-cold p l n e false k true j =
-        let y = eqb-true (frame_of p) f j in
-        h.cold p l n (λ u v. eqb-false p q k (let w : g f ≡ p + 1 = ap g (sym y) ∙ u in omega arith))
-    wrote-cold p l n e false k false j = let m = eqb-false (frame_of p) f j in h.cold p l n (λ u v. e u (flags (frame_of p) m ∙ v))
-
-    given_by : (p : ℕ) → s.given p ≡ true → (b : Bool) → cond b true (s.given p) ≡ true
-    given_by p e true = refl
-    given_by p e false = e
-
-    not_f : (k : ℕ) → z' k ≡ true → k ≡ f → ⊥
-    not_f k e y = true≢false (sym e ∙ ap z' y ∙ flag)
-
     pub cache-wrote : Cache E g z' r (changed q (r f) s) t
     cache-wrote = record {
       inside = h.inside;
-      tagged = λ k e. h.tagged k (sym (flags k (not_f k e)) ∙ e);
+      tagged = λ k e. grind (arith, common_steps, h.tagged k, flags k, e);
       holds = h.holds;
-      own = λ p l n e d. given_by p (h.own p l n e (sym (flags (frame_of p) (not_f (frame_of p) d)) ∙ d)) (eqb p q);
-      cold = λ p l n e. wrote-cold p l n e (eqb p q) refl (eqb (frame_of p) f) refl;
+      own = λ p l n e d. grind (arith, common_steps, h.own p l n e, flags (frame_of p), d);
+      cold = λ p l n e. grind (arith, common_steps, h.cold p l n, flags (frame_of p), wrote-holds, e);
     }
 
   -- a page that has a slot of its own is not blank
@@ -227,87 +139,43 @@ module _ (N : ℕ) where
   core-wrote s t q v l h e = record {
     base = h.base;
     live = h.live;
-    has = λ p i. has-by p i (eqb p q) refl;
-    given = λ p i. given_by p i (eqb p q) refl;
+    has = λ p i. grind (arith, common_steps, h.has p i, own-full s t q l h e);
+    given = λ p i. grind (arith, common_steps, h.given p i, e);
     long = h.long;
     long_base = h.long_base;
   }
-    where
-      has-by : (p : ℕ) → p < N → (b : Bool) → eqb p q ≡ b → cond b true (s.has p) ≡ not (blank (t.now p))
-      has-by p i true k = sym (ap (λ y. not (blank (t.now y))) (eqb-true p q k) ∙ ap not (own-full s t q l h e))
-      has-by p i false k = h.has p i
-
-      given_by : (p : ℕ) → p < N → (b : Bool) → eqb p q ≡ b → cond b true (s.given p) ≡ t.fresh p && not (blank (t.now p))
-      given_by p i true k = sym e ∙ ap s.given (sym (eqb-true p q k)) ∙ h.given p i
-      given_by p i false k = h.given p i
 
   -- A PAGE IS PUT: with a slot of its own, and blank
   pub core-put : (s : Held) (t : Pages) (p : ℕ) (v w : List ℕ) → Core s t → length w ≡ 4096 → blank w ≡ false → Core (changed p v s) (put_page p w t)
   core-put s t p v w h n e = record {
     base = h.base;
     live = h.live;
-    has = λ q i. has-by q i (eqb q p);
-    given = λ q i. given_by q i (eqb q p);
-    long = λ q i. long-by q i (eqb q p);
+    has = λ q i. grind (arith, common_steps, h.has q i);
+    given = λ q i. grind (arith, common_steps, h.given q i);
+    long = λ q i. grind (arith, common_steps, h.long q i);
     long_base = h.long_base;
   }
-    where
-      has-by : (q : ℕ) → q < N → (b : Bool) → cond b true (s.has q) ≡ not (blank (cond b w (t.now q)))
-      has-by q i true = sym (ap not e)
-      has-by q i false = h.has q i
-
-      given_by : (q : ℕ) → q < N → (b : Bool) → cond b true (s.given q) ≡ cond b true (t.fresh q) && not (blank (cond b w (t.now q)))
-      given_by q i true = sym (ap not e)
-      given_by q i false = h.given q i
-
-      long-by : (q : ℕ) → q < N → (b : Bool) → length (cond b w (t.now q)) ≡ 4096
-      long-by q i true = n
-      long-by q i false = h.long q i
 
   -- rewritten in its frame: it has its slot
   pub core-again : (s : Held) (t : Pages) (p : ℕ) (w : List ℕ) → p < N → Core s t → length w ≡ 4096 → blank w ≡ false → s.given p ≡ true → Core s (put_page p w t)
   core-again s t p w l h n e o = record {
     base = h.base;
     live = h.live;
-    has = λ q i. has-by q i (eqb q p) refl;
-    given = λ q i. given_by q i (eqb q p) refl;
-    long = λ q i. long-by q i (eqb q p);
+    has = λ q i. grind (arith, common_steps, h.has q i, own-full s t p l h o);
+    given = λ q i. grind (arith, common_steps, h.given q i, o);
+    long = λ q i. grind (arith, common_steps, h.long q i);
     long_base = h.long_base;
   }
-    where
-      has-by : (q : ℕ) → q < N → (b : Bool) → eqb q p ≡ b → s.has q ≡ not (blank (cond b w (t.now q)))
-      has-by q i true k = h.has q i ∙ ap (λ y. not (blank (t.now y))) (eqb-true q p k) ∙ ap not (own-full s t p l h o) ∙ sym (ap not e)
-      has-by q i false k = h.has q i
-
-      given_by : (q : ℕ) → q < N → (b : Bool) → eqb q p ≡ b → s.given q ≡ cond b true (t.fresh q) && not (blank (cond b w (t.now q)))
-      given_by q i true k = ap s.given (eqb-true q p k) ∙ o ∙ sym (ap not e)
-      given_by q i false k = h.given q i
-
-      long-by : (q : ℕ) → q < N → (b : Bool) → length (cond b w (t.now q)) ≡ 4096
-      long-by q i true = n
-      long-by q i false = h.long q i
 
   pub core-clear : (s : Held) (t : Pages) (p : ℕ) (w : List ℕ) → Core s t → length w ≡ 4096 → blank w ≡ true → Core (cleared p s) (put_page p w t)
   core-clear s t p w h n e = record {
     base = h.base;
     live = h.live;
-    has = λ q i. has-by q i (eqb q p);
-    given = λ q i. given_by q i (eqb q p);
-    long = λ q i. long-by q i (eqb q p);
+    has = λ q i. grind (arith, common_steps, h.has q i);
+    given = λ q i. grind (arith, common_steps, h.given q i);
+    long = λ q i. grind (arith, common_steps, h.long q i);
     long_base = h.long_base;
   }
-    where
-      has-by : (q : ℕ) → q < N → (b : Bool) → cond b false (s.has q) ≡ not (blank (cond b w (t.now q)))
-      has-by q i true = sym (ap not e)
-      has-by q i false = h.has q i
-
-      given_by : (q : ℕ) → q < N → (b : Bool) → cond b false (s.given q) ≡ cond b true (t.fresh q) && not (blank (cond b w (t.now q)))
-      given_by q i true = sym (ap not e)
-      given_by q i false = h.given q i
-
-      long-by : (q : ℕ) → q < N → (b : Bool) → length (cond b w (t.now q)) ≡ 4096
-      long-by q i true = n
-      long-by q i false = h.long q i
 
   pub blank-same : (w : List ℕ) → length w ≡ 4096 → blank w ≡ true → blank_page ≡ w
   blank-same w n e = sym (blank-is w e ∙ ap zeros n)

@@ -1,7 +1,7 @@
 -- The frames keep to the model of pages above any store that keeps to the pager's, and so on the device.
-use Rattle.std.proofs.Common.{◌≡◌, ℕ, ◌+◌, ◌-◌, ◌<◌, ◌≤◌, Bool, true, false, cond, eqb, leb, ◌⊎◌, Some, None, List, [], length, get_or, vec_items, sym, refl, ap, ◌∙◌, subst, inl, inr, arith, get_or-set_other, get_or-set_same, eqb-true}
-use Rattle.std.proofs.lemmas.Bool.{leb-true, leb-false, not-true, not-false, true≢false}
-use borrow.Author.Tests.{eqb-false}
+use Rattle.std.proofs.Common.{◌≡◌, ℕ, ◌+◌, ◌-◌, ◌<◌, ◌≤◌, Bool, true, false, ◌⊎◌, Some, None, List, [], length, get_or, vec_items, sym, refl, ap, ◌∙◌, subst, inl, inr, arith, get_or-set_other, get_or-set_same}
+use Rattle.std.proofs.lemmas.Bool.{not-true, not-false, true≢false}
+use Rattle.std.proofs.lemmas.Grind.{common_steps}
 use Rattle.device.specs.Device.{With, and, Sized}
 use Rattle.device.specs.declared.Never.{Never}
 use Rattle.device.specs.declared.Next.TheVariants as next
@@ -155,18 +155,10 @@ module _ (size : ℕ) (sized : Sized size) where
           commit = sym e;
           less = b.low;
           sending = record { call = refl; bytes = refl; stale = y.stale };
-          clean = λ k l. by k l (leb i k) refl;
+          clean = λ k l. grind (arith, common_steps, y.clean k, clean k);
           of = o;
         })
-      where
-        by : (k : ℕ) → k < b.at → (q : Bool) → leb i k ≡ q → st b k ≡ false
-        by k l true q = y.clean k (leb-true i k q) l
-        by k l false q = clean k (leb-false i k q)
-    flush-on i s e clean o (inr y) = ask s call.Commit Committing y.turn y.doing (record { commit = sym e; call = refl; clean = λ k l. by k l (leb i k) refl; of = o })
-      where
-        by : (k : ℕ) → k < 128 → (q : Bool) → leb i k ≡ q → st b k ≡ false
-        by k l true q = y.clean k (leb-true i k q) l
-        by k l false q = clean k (leb-false i k q)
+    flush-on i s e clean o (inr y) = ask s call.Commit Committing y.turn y.doing (record { commit = sym e; call = refl; clean = λ k l. grind (arith, common_steps, y.clean k, clean k); of = o })
 
     start-call : (e : PageCall) (s : Held) → e ≡ c.it → Known P S e c.bytes a → Of P S a s t → CallStarts e a x b → Leads s
     start-call (Get p) s e w o y = start-get p s y.hit (st a (frame_of p)) e o y.hits refl y.by
@@ -265,11 +257,7 @@ module _ (size : ℕ) (sized : Sized size) where
       back-cache z e n = subst (λ k. Cache P E (tg a) z (fr a) k t') (sym back_is) (cache-wrote P E (tg a) (st a) z (fr a) s t' f (tg a f - 1) back-tag w.stale but e n cache)
 
     given-kept : (s : Held) (p q : ℕ) (v : List ℕ) → s.given p ≡ true → (changed q v s).given p ≡ true
-    given-kept s p q v e = by (eqb p q)
-      where
-        by : (b : Bool) → cond b true (s.given p) ≡ true
-        by true = refl
-        by false = e
+    given-kept s p q v e = grind (arith, common_steps)
 
     hear-evicting : (p : ℕ) (d : With Call) (s u : Held) (r : With Reply) → InEvicting P S p c d a s t → low.Replies P S d s r u → Stores p a x b → Leads u
     hear-evicting p d s u r h y q =
@@ -372,14 +360,10 @@ module _ (size : ℕ) (sized : Sized size) where
         let z = q.stale h.less in
         let here : st b i ≡ false = ap (λ (v : List Bool). get_or v i false) z ∙ get_or-set_same (vec_items a.stale) i false false (omega (arith, h.less, a.slen, a.stale.ok.0)) in
         let there : (k : ℕ) → (k ≡ i → ⊥) → st b k ≡ st a k = λ k n. ap (λ (v : List Bool). get_or v k false) z ∙ get_or-set_other (vec_items a.stale) i k false false n in
-        flush-on (i + 1) u (sym h.commit) (λ k l. clean-by k l here there (eqb k i) refl) (record {
+        flush-on (i + 1) u (sym h.commit) (λ k l. grind (arith, common_steps, here, there k, h.clean k)) (record {
           core = back-core (NoPage P) i d s u r t h.sending o.core o.cache (λ n. n) y;
           cache = cache-same P S (NoPage P) (tg a) (tg b) (st b) (st b) (fr a) (fr b) u t (ap (λ v f. get_or (vec_items v) f 0) q.tags) refl (ap (λ v f. get_or (vec_items v) f []) q.rows) (back-cache (NoPage P) i d s u r t h.sending o.core o.cache (λ n. n) y (st b) here there);
         }) q.on
-      where
-        clean-by : (k : ℕ) → k < i + 1 → st b i ≡ false → ((k : ℕ) → (k ≡ i → ⊥) → st b k ≡ st a k) → (e : Bool) → eqb k i ≡ e → st b k ≡ false
-        clean-by k l here there true e = ap (st b) (eqb-true k i e) ∙ here
-        clean-by k l here there false e = there k (eqb-false k i e) ∙ h.clean k (omega (arith, eqb-false k i e))
 
     hear-committing : (d : With Call) (s u : Held) (r : With Reply) → InCommitting P S c d a s t → low.Replies P S d s r u → Told r.it a x b → Leads u
     hear-committing d s u r h y q =

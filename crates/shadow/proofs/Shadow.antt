@@ -1,7 +1,8 @@
 -- The committed pages, the present ones, and what writes, syncs and cuts do to them; maps are functions here.
-use Rattle.std.proofs.Common.{◌≡◌, ℕ, ◌+◌, ◌*◌, ◌/◌, ◌%◌, ◌<◌, ◌≤◌, Bool, true, false, cond, eqb, leb, List, sym, refl, ap, ◌∙◌, subst, inl, inr, arith, ne_eqb, eqb-true}
+use Rattle.std.proofs.Common.{◌≡◌, ℕ, ◌+◌, ◌*◌, ◌/◌, ◌%◌, ◌<◌, ◌≤◌, Bool, true, false, cond, eqb, leb, List, sym, refl, ap, ◌∙◌, inl, inr, arith, ne_eqb, eqb-true}
 use borrow.Author.Tests.{eqb-false}
 use Rattle.std.proofs.lemmas.Bool.{le-leb, leb-true, leb-false}
+use Rattle.std.proofs.lemmas.Grind.{common_steps}
 use Rattle.device.specs.Device.{Device, shown, written, synced, AfterCut}
 use Rattle.device.proofs.Sectors.{Calm, shown-calm, shown-written, since-other, cut-calm}
 use Rattle.shadow.specs.Layout.{other, area_at, slot_at, area_in, raw_in, entry_in, blank_page, page_in, updated, Free}
@@ -36,10 +37,10 @@ module _ (N M S : ℕ) (few : N ≤ 64 * M) where
   body-as a b c P d e h = record {
     map = λ p l. h.map p l ∙ e p l;
     map_calm = h.map_calm;
-    page = λ p l. subst (λ x. page_in M d.kept x ≡ P p) (e p l) (h.page p l);
-    page_calm = λ p l. subst (λ x. 1 ≤ x → (j : ℕ) → j < 8 → Calm d (slot_at M x + j)) (e p l) (h.page_calm p l);
-    fits = λ p l. subst (λ x. x ≤ S) (e p l) (h.fits p l);
-    apart = λ p q l k z o. h.apart p q l k (e p l ∙ z ∙ sym (e q k)) (subst (λ x. 1 ≤ x) (sym (e p l)) o);
+    page = λ p l. ap (page_in M d.kept) (sym (e p l)) ∙ h.page p l;
+    page_calm = λ p l. rw (e p l) at (h.page_calm p l);
+    fits = λ p l. rw (e p l) at (h.fits p l);
+    apart = λ p q l k z o. h.apart p q l k (e p l ∙ z ∙ sym (e q k)) (rw (e p l) o);
   }
 
   pub body-cut : (a : Bool) (b : ℕ → ℕ) (P : ℕ → List ℕ) (d f : Device) → AfterCut d f → Body a b P d → Body a b P f
@@ -147,53 +148,24 @@ module _ (N M S : ℕ) (few : N ≤ 64 * M) where
       (left : (e : ℕ) → (e ≡ s → ⊥) → page_in M (shown after) e ≡ page_in M (shown d) e) (free : (q : ℕ) → q < N → b q ≡ s → ⊥) (alone : (q : ℕ) → q < N → (q ≡ p → ⊥) → w q ≡ s → ⊥)
       (here : w' p ≡ s) (rest : (q : ℕ) → (q ≡ p → ⊥) → w' q ≡ w q) (owned : o' s ≡ p) (others : (t : ℕ) → (t ≡ s → ⊥) → o' t ≡ o t)
       (flag : (q : ℕ) → q < N → y' (q / 64) ≡ false → (q ≡ p → ⊥) × (y (q / 64) ≡ false)) (h : Above b w o y Q d) where
-    put-page : (q : ℕ) → q < N → (t : Bool) → eqb q p ≡ t → page_in M (shown after) (w' q) ≡ cond t (page_in M (shown after) s) (Q q)
-    put-page q l true e = let z : q ≡ p = eqb-true q p e in ap (page_in M (shown after)) (ap w' z ∙ here)
-    put-page q l false e =
-        let n : (q ≡ p → ⊥) = eqb-false q p e in
-        ap (page_in M (shown after)) (rest q n) ∙ left (w q) (alone q l n) ∙ h.page q l
-
-    put-fits : (q : ℕ) → q < N → (t : Bool) → eqb q p ≡ t → w' q ≤ S
-    put-fits q l true e = let z : w' q ≡ s = ap w' (eqb-true q p e) ∙ here in omega arith
-    put-fits q l false e = let z : w' q ≡ w q = rest q (eqb-false q p e) in let f = h.fits q l in omega arith
-
-    put_back : (q : ℕ) → q < N → 1 ≤ w' q → (t : Bool) → eqb q p ≡ t → o' (w' q) ≡ q
-    put_back q l k true e = let z : q ≡ p = eqb-true q p e in ap o' (ap w' z ∙ here) ∙ owned ∙ sym z
-    put_back q l k false e =
-        let n : (q ≡ p → ⊥) = eqb-false q p e in
-        let z : w' q ≡ w q = rest q n in
-        ap o' z ∙ others (w q) (alone q l n) ∙ h.back_now q l (omega arith)
-
     pub above-put : Above b w' o' y' (updated p (page_in M (shown after) s) Q) after
     above-put = record {
-      page = λ q l. put-page q l (eqb q p) refl;
-      fits = λ q l. put-fits q l (eqb q p) refl;
+      page = λ q l. grind (arith, common_steps, rest q, left (w q), alone q l, h.page q l);
+      fits = λ q l. grind (arith, common_steps, rest q, h.fits q l);
       back = λ q l k. others (b q) (free q l) ∙ h.back q l k;
-      back_now = λ q l k. put_back q l k (eqb q p) refl;
+      back_now = λ q l k. grind (arith, common_steps, rest q, others (w q), alone q l, h.back_now q l);
       dirty = λ q l e. let (n, z) = flag q l e in rest q n ∙ h.dirty q l z;
     }
 
   -- PUT of a blank page: it has no slot any more
   module _ (b w o w' : ℕ → ℕ) (y y' : ℕ → Bool) (Q : ℕ → List ℕ) (d : Device) (p : ℕ) (here : w' p ≡ 0) (rest : (q : ℕ) → (q ≡ p → ⊥) → w' q ≡ w q)
       (flag : (q : ℕ) → q < N → y' (q / 64) ≡ false → (q ≡ p → ⊥) × (y (q / 64) ≡ false)) (h : Above b w o y Q d) where
-    clear-page : (q : ℕ) → q < N → (t : Bool) → eqb q p ≡ t → page_in M (shown d) (w' q) ≡ cond t blank_page (Q q)
-    clear-page q l true e = ap (page_in M (shown d)) (ap w' (eqb-true q p e) ∙ here)
-    clear-page q l false e = ap (page_in M (shown d)) (rest q (eqb-false q p e)) ∙ h.page q l
-
-    clear-fits : (q : ℕ) → q < N → (t : Bool) → eqb q p ≡ t → w' q ≤ S
-    clear-fits q l true e = let z : w' q ≡ 0 = ap w' (eqb-true q p e) ∙ here in omega arith
-    clear-fits q l false e = let z : w' q ≡ w q = rest q (eqb-false q p e) in let f = h.fits q l in omega arith
-
-    clear-back : (q : ℕ) → q < N → 1 ≤ w' q → (t : Bool) → eqb q p ≡ t → o (w' q) ≡ q
-    clear-back q l k true e = let z : w' q ≡ 0 = ap w' (eqb-true q p e) ∙ here in absurd (omega arith)
-    clear-back q l k false e = let z : w' q ≡ w q = rest q (eqb-false q p e) in ap o z ∙ h.back_now q l (omega arith)
-
     pub above-clear : Above b w' o y' (updated p blank_page Q) d
     above-clear = record {
-      page = λ q l. clear-page q l (eqb q p) refl;
-      fits = λ q l. clear-fits q l (eqb q p) refl;
+      page = λ q l. grind (arith, common_steps, rest q, h.page q l);
+      fits = λ q l. grind (arith, common_steps, rest q, h.fits q l);
       back = h.back;
-      back_now = λ q l k. clear-back q l k (eqb q p) refl;
+      back_now = λ q l k. grind (arith, common_steps, rest q, h.back_now q l);
       dirty = λ q l e. let (n, z) = flag q l e in rest q n ∙ h.dirty q l z;
     }
 
