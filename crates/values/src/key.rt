@@ -81,10 +81,10 @@ fn put_escaped(text: &[u8], out: &mut [u8], at: usize) -> usize
     ensures bytes { out.new ≡ put out.old at (escaped text.now) }
 {
     let mut end = at;
-    for byte in text {
-        out[end] = *byte;
+    for &byte in text {
+        out[end] = byte;
         end += 1;
-        if *byte == 0 {
+        if byte == 0 {
             out[end] = 255;
             end += 1;
         }
