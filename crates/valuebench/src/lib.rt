@@ -2,12 +2,12 @@
 #![tactic(auto)]
 
 use values::Value;
-use values::key::{less, write_column};
+use values::key::{Direction, less, write_column};
 
 // A number rising and a text of 4 bytes falling: 16 bytes, where the text has no 0.
 fn write_key(number: i64, text: &[u8], keys: &mut [u8], at: usize) -> Option<usize> {
-    let next = write_column(Value::Number(number), false, keys, at)?;
-    write_column(Value::Text(text), true, keys, next)
+    let next = write_column(Value::Number(number), Direction::Rising, keys, at)?;
+    write_column(Value::Text(text), Direction::Falling, keys, next)
 }
 
 fn write_keys(numbers: &[i64], texts: &[u8], keys: &mut [u8]) -> Option<usize> {

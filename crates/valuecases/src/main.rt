@@ -6,7 +6,7 @@ mod shown;
 use shown::{Hex, KeyRead, RowRead, Shown};
 use std::io;
 use values::back::first_column;
-use values::key::write_column;
+use values::key::{Direction, write_column};
 use values::row::write_value;
 use values::{Truth, Value};
 
@@ -35,8 +35,8 @@ const SAMPLES: [Value; 18] = [
 const TRUTHS: [Truth; 3] = [Truth::Holds, Truth::Fails, Truth::Unknown];
 
 // The bytes of a column, written to the front of `out`.
-fn key_of<'a>(value: Value, falling: bool, out: &'a mut [u8; 64]) -> &'a [u8] {
-    let end = write_column(value, falling, out, 0).unwrap_or(0);
+fn key_of<'a>(value: Value, direction: Direction, out: &'a mut [u8; 64]) -> &'a [u8] {
+    let end = write_column(value, direction, out, 0).unwrap_or(0);
     out.get(..end).unwrap_or(b"")
 }
 
@@ -56,9 +56,9 @@ fn print_sample(rt: &HostRuntime, value: Value) -> io::Result<()> {
         Hex(row),
         RowRead(row)
     )?;
-    let rising = key_of(value, false, &mut bytes);
+    let rising = key_of(value, Direction::Rising, &mut bytes);
     print!(rt; ", rising {} {}", Hex(rising), KeyRead(rising))?;
-    let falling = key_of(value, true, &mut bytes);
+    let falling = key_of(value, Direction::Falling, &mut bytes);
     println!(rt; ", falling {}", Hex(falling))
 }
 
@@ -66,8 +66,8 @@ fn print_sample(rt: &HostRuntime, value: Value) -> io::Result<()> {
 fn agree(a: Value, b: Value) -> bool {
     let mut x = [0u8; 64];
     let mut y = [0u8; 64];
-    let rising = key_of(a, false, &mut x) < key_of(b, false, &mut y);
-    let falling = key_of(a, true, &mut x) < key_of(b, true, &mut y);
+    let rising = key_of(a, Direction::Rising, &mut x) < key_of(b, Direction::Rising, &mut y);
+    let falling = key_of(a, Direction::Falling, &mut x) < key_of(b, Direction::Falling, &mut y);
     rising == a.less(b) && falling == b.less(a)
 }
 
@@ -161,7 +161,7 @@ fn print_long(rt: &HostRuntime) -> io::Result<()> {
     let over = half.concat(Value::Text(&zeros[..2001]), &mut out).is_null();
     println!(rt; "2000 and 2000 bytes make {joined}; one more makes null: {over}")?;
     let mut key = [0u8; 9000];
-    let Some(end) = write_column(Value::Text(&zeros[..4000]), false, &mut key, 0) else {
+    let Some(end) = write_column(Value::Text(&zeros[..4000]), Direction::Rising, &mut key, 0) else {
         return println!(rt; "no room for a key");
     };
     println!(rt; "the key of 4000 zeros has {end} bytes")?;
@@ -172,7 +172,7 @@ fn print_long(rt: &HostRuntime) -> io::Result<()> {
         "and is read back as {}",
         back.map_or(0, |first| text_length(first.value))
     )?;
-    let Some(end) = write_column(Value::Text(&zeros), false, &mut key, 0) else {
+    let Some(end) = write_column(Value::Text(&zeros), Direction::Rising, &mut key, 0) else {
         return println!(rt; "no room for a key");
     };
     let back = key

@@ -1,9 +1,11 @@
 -- Keys as bytes: comparing the bytes is comparing the values, column by column, each rising or falling.
-use Rattle.std.specs.Prelude.{◌≡◌, ℕ, zero, suc, ◌+◌, ◌-◌, ◌*◌, ◌≤◌, Bool, cond, ◌&&◌, ◌||◌, List, [], ◌∷◌, ◌++◌, length, ℤ, pos, negsuc, nat_le}
+use Rattle.std.specs.Prelude.{◌≡◌, ℕ, zero, suc, ◌+◌, ◌-◌, ◌*◌, ◌≤◌, Bool, true, false, cond, ◌&&◌, ◌||◌, List, [], ◌∷◌, ◌++◌, length, ℤ, pos, negsuc, nat_le}
 use Rattle.std.specs.List.{AllByRecursion}
 use Rattle.meaning.specs.Value.{Value, Null, Num, Text, fits, less_bytes}
 use Rattle.meaning.specs.Meaning.{same_all, earlier}
 use Rattle.meaning.specs.Doing.{weight, key_weight}
+use Rattle.values.specs.declared.key.Direction.{Direction}
+use Rattle.values.specs.declared.key.Direction.TheVariants.{Rising, Falling}
 use Rattle.octets.specs.Numbers.{be, Bytes, turned}
 
 -- a number as one that is not negative: 2^63 is added
@@ -22,6 +24,11 @@ unfoldable pub rising_code : Value → List ℕ
 rising_code Null = 1 ∷ []
 rising_code (Num n) = 2 ∷ be 8 (lifted n)
 rising_code (Text t) = 3 ∷ escaped t
+
+-- whether a column of the code falls
+abbrev pub falls : Direction → Bool
+falls Rising = false
+falls Falling = true
 
 -- a column of a key; a falling one has each byte taken from 255
 abbrev pub code_of : (falling : Bool) → Value → List ℕ

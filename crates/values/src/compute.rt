@@ -23,6 +23,7 @@ impl<'a> Value<'a> {
         self == other
     }
 
+    #[tactic(auto, unfolding(meaning::specs::Value::is_null))]
     pub fn is_null(self) -> bool
         ensures { result ≡ is_null (meaning_of self.entry) }
     {
@@ -56,6 +57,7 @@ impl<'a> Value<'a> {
     }
 
     // What a tested operation gives of two numbers; null where that is nothing, or where one is no number.
+    #[tactic(auto, unfolding(meaning::specs::Value::arithmetic))]
     fn computed<F: Fn(i64, i64) -> Option<i64>>(self, other: Value, operation: F) -> Value<'static>
         requires { F.IsAlwaysCallable operation }
         ensures { (f : ℤ → ℤ → ℤ) → Computes (F.post operation) f → meaning_of result ≡ arithmetic f (meaning_of self.entry) (meaning_of other.entry) }
@@ -67,6 +69,7 @@ impl<'a> Value<'a> {
     }
 
     // One text behind the other, written into `out`; null where one is no text or more than 4,000 bytes would come out.
+    #[tactic(auto, unfolding(meaning::specs::Value::joined))]
     pub fn concat<'o>(self, other: Value, out: &'o mut [u8; 4000]) -> Value<'o>
         ensures { meaning_of result ≡ joined (meaning_of self.entry) (meaning_of other.entry) }
     {
@@ -112,6 +115,7 @@ impl<'a> Value<'a> {
     }
 
     // A number but 0 holds, 0 and texts fail, null is neither.
+    #[tactic(auto, unfolding(meaning::specs::Value::truth))]
     pub fn truth(self) -> Truth
         ensures { truth_of result ≡ truth (meaning_of self.entry) }
     {
@@ -149,6 +153,7 @@ impl From<Option<i64>> for Value<'static> {
 impl From<Truth> for Value<'static> {
     ghost from_gives = { λ truth v. meaning_of v ≡ from_truth (truth_of truth) };
 
+    #[tactic(auto, unfolding(meaning::specs::Value::from_truth))]
     fn from(truth: Truth) -> Value<'static> {
         match truth {
             Truth::Holds => Value::Number(1),
@@ -173,6 +178,7 @@ impl Truth {
         self.max(other)
     }
 
+    #[tactic(auto, unfolding(meaning::specs::Value::not3))]
     pub fn not(self) -> Truth
         ensures { truth_of result ≡ not3 (truth_of self) }
     {
@@ -184,6 +190,7 @@ impl Truth {
     }
 
     // Whether a row passes: only where the test holds.
+    #[tactic(auto, unfolding(meaning::specs::Value::holds))]
     pub fn holds(self) -> bool
         ensures { result ≡ holds (truth_of self) }
     {

@@ -6,7 +6,7 @@ ghost use Rattle.meaning.specs.Doing.{weight};
 ghost use Rattle.values.specs.Meant.{meaning_of};
 ghost use Rattle.octets.specs.Numbers.{turned};
 ghost use Rattle.octets.specs.Parts.{put};
-ghost use Rattle.values.specs.Key.{lifted, escaped, rising_code, code_of, column_room, Storable, OrdersKeys, KeysOrdered, KeysFollowed, KeysApart, KeysShort};
+ghost use Rattle.values.specs.Key.{lifted, escaped, rising_code, falls, code_of, column_room, Storable, OrdersKeys, KeysOrdered, KeysFollowed, KeysApart, KeysShort};
 
 use crate::Value;
 use octets::put_u64;
@@ -19,6 +19,13 @@ pub fn keys_stand()
     ensures short { KeysShort }
 {}
 
+// The way a column goes.
+#[derive(Clone, Copy, PartialEq, Eq)]
+pub enum Direction {
+    Rising,
+    Falling,
+}
+
 // The order of keys, each with what follows it: that of their bytes, which is that of their values.
 pub fn less(a: &[u8], b: &[u8]) -> bool
     ensures bytes { result ≡ less_bytes a.now b.now }
@@ -28,26 +35,27 @@ pub fn less(a: &[u8], b: &[u8]) -> bool
 }
 
 // A column of a key, written at `at`: the place behind it. Nothing is written where 1 and twice the value's weight have no room there.
-pub fn write_column(value: Value, falling: bool, out: &mut [u8], at: usize) -> Option<usize>
+pub fn write_column(value: Value, direction: Direction, out: &mut [u8], at: usize) -> Option<usize>
     ensures storable { Storable (meaning_of value.entry) }
-    ensures place { result ≡ (if column_room out.old at (meaning_of value.entry) then Some (at + length (code_of falling (meaning_of value.entry))) else None) }
-    ensures bytes { out.new ≡ (if column_room out.old at (meaning_of value.entry) then put out.old at (code_of falling (meaning_of value.entry)) else out.old) }
+    ensures place { result ≡ (if column_room out.old at (meaning_of value.entry) then Some (at + length (code_of (falls direction) (meaning_of value.entry))) else None) }
+    ensures bytes { out.new ≡ (if column_room out.old at (meaning_of value.entry) then put out.old at (code_of (falls direction) (meaning_of value.entry)) else out.old) }
 {
     let weight = value.weight();
     if at >= out.len() || weight > (out.len() - at - 1) / 2 {
         return None;
     }
-    Some(put_column(value, falling, out, at))
+    Some(put_column(value, direction, out, at))
 }
 
-fn put_column(value: Value, falling: bool, out: &mut [u8], at: usize) -> usize
+fn put_column(value: Value, direction: Direction, out: &mut [u8], at: usize) -> usize
     requires { at + (2 * weight (meaning_of value) + 1) ≤ length out.old }
-    ensures place { result ≡ at + length (code_of falling (meaning_of value.entry)) }
-    ensures bytes { out.new ≡ put out.old at (code_of falling (meaning_of value.entry)) }
+    ensures place { result ≡ at + length (code_of (falls direction) (meaning_of value.entry)) }
+    ensures bytes { out.new ≡ put out.old at (code_of (falls direction) (meaning_of value.entry)) }
 {
     let end = put_rising(value, out, at);
-    if falling {
-        turn(&mut out[at..end]);
+    match direction {
+        Direction::Rising => {}
+        Direction::Falling => turn(&mut out[at..end]),
     }
     end
 }
@@ -81,10 +89,10 @@ fn put_escaped(text: &[u8], out: &mut [u8], at: usize) -> usize
     ensures bytes { out.new ≡ put out.old at (escaped text.now) }
 {
     let mut end = at;
-    for byte in text {
-        out[end] = *byte;
+    for &byte in text {
+        out[end] = byte;
         end += 1;
-        if *byte == 0 {
+        if byte == 0 {
             out[end] = 255;
             end += 1;
         }

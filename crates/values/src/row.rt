@@ -155,6 +155,7 @@ impl<'a> Iterator for Values<'a> {
 
 impl<'a> Value<'a> {
     // How many bytes it takes in a row. What the code holds can be stored.
+    #[tactic(auto, unfolding(meaning::specs::Doing::weight))]
     pub fn weight(self) -> usize
         ensures value { result ≡ weight (meaning_of self.entry) }
         ensures storable { Storable (meaning_of self.entry) }

@@ -9,6 +9,7 @@ use std::alloc::{AllocError, Global};
 
 impl Joiner {
     // All its memory is taken here.
+    #[tactic(auto, unfolding(crate::specs::Joiner::pages_to))]
     pub fn new(heap: Global) -> Result<Joiner, AllocError>
         ensures { IfOk result (λ j. j ≡ record { level = 0; pages = [] }) }
     {
@@ -20,6 +21,7 @@ impl Joiner {
     }
 
     // No pages, of another level.
+    #[tactic(auto, unfolding(crate::specs::Joiner::pages_to))]
     pub fn begin(&mut self, level: u8)
         ensures { self.new ≡ record { level = level; pages = [] } }
     {

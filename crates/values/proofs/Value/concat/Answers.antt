@@ -1,18 +1,9 @@
-use Rattle.std.proofs.Common.{sym, ap, ◌∙◌, arith, rules}
+use Rattle.std.proofs.Common.{sym, ap, ◌∙◌, arith}
 use Rattle.meaning.specs.Value.{Text, joined}
-use Rattle.std.proofs.lemmas.Bool.{cond-true, lt-ltb}
 use Rattle.values.specs.Meant.{meaning_of}
 use Rattle.values.proofs.Numbers.{joined-short}
 use Rattle.octets.proofs.Parts.{two-copies}
 use Rattle.values.proofs.Value.concat.Goals as goal
-
-pub returns-in_default : goal.returns-in_default
-unfolding joined
-returns-in_default c = search rules
-
-pub returns-then-a-gt-LONGEST : goal.returns-then-a-gt-LONGEST
-unfolding joined
-returns-then-a-gt-LONGEST c = search (rules, cond-true, lt-ltb)
 
 pub returns : goal.returns
 unfolding joined
