@@ -3,10 +3,11 @@ use Rattle.std.proofs.Common.{◌≡◌, ℕ, zero, suc, ◌+◌, ◌*◌, ◌<�
 use Rattle.std.proofs.lemmas.List.{get_or_past, take_more, drop_more, drop_all}
 use Rattle.std.proofs.lemmas.Bool.Decides.{nat_tests}
 use Rattle.std.proofs.lemmas.Bool.{or_left, or_from, lt-ltb, ne_eqb, ltb-true, ltb-false}
-use Rattle.meaning.specs.Text.{Word, Number, Quoted, Sign, Wrong, Mode, Between, InWord, InNumber, InQuotes, AfterQuote, AfterLess, AfterMore, AfterBar, tokens, emits, after, ends, enters, gives, small, less_by, letter, digit, is_in, signs, spaces, at_most_sign, differs_sign, joined_sign, at_least_sign}
+use Rattle.meaning.specs.Text.{Token, Word, Number, Quoted, Sign, Wrong, Mode, Between, InWord, InNumber, InQuotes, AfterQuote, AfterLess, AfterMore, AfterBar, tokens, emits, after, ends, enters, gives, small, less_by, letter, digit, is_in, signs, spaces, at_most_sign, differs_sign, joined_sign, at_least_sign}
 use Rattle.grammar.proofs.Tools.{clash}
 use Rattle.text.specs.declared.tokens.Tok.{Tok}
-use Rattle.text.specs.Cut.{Run, RunBy, tokens_of, decimal, undoubled, in_word, space}
+use Rattle.text.specs.declared.tokens.Place.{Place}
+use Rattle.text.specs.Cut.{Run, RunBy, tokens_of, tokens_at, decimal, undoubled, in_word, space}
 
 pub run_more : (p : ℕ → Bool) (b : ℕ) (bs : List ℕ) (n : ℕ) → Run p (b ∷ bs) (suc n) → Run p bs n
 run_more p b bs n r = record { within = omega (arith, r.within); all = λ k l. r.all (suc k) (omega arith); stops = λ l. r.stops (omega arith) }
@@ -338,3 +339,7 @@ nil-cut s a l = sym (ap (tokens Between) (drop_all a s l))
 -- a token and its length, matched
 pub matched : (s : List ℕ) (a : ℕ) (r : Tok × ℕ) (t : Tok) (n : ℕ) → r ≡ (t, n) → tokens_of s t (a + n) ≡ tokens Between (drop a s) → tokens_of s r.0 (a + r.1) ≡ tokens Between (drop a s)
 matched s a r t n e h = ap (λ r. tokens_of s r.0 (a + r.1)) e ∙ h
+
+-- a place made of a token and a rest
+pub placed : (s : List ℕ) (x : Place) (t : Tok) (r : ℕ) (ts : List Token) → (x.tok ≡ t) × (x.rest ≡ r) → tokens_of s t r ≡ ts → tokens_at s x ≡ ts
+placed s x t r ts e h = (λ i. tokens_of s (e.0 i) (e.1 i)) ∙ h

@@ -42,7 +42,7 @@ pub enum Tok {
 #[derive(Clone, Copy)]
 pub struct Place {
     pub tok: Tok,
-    pub rest: usize,
+    pub rest: u16,
 }
 
 // The bytes of a statement, which is not too long.
@@ -115,6 +115,16 @@ fn span(from: usize, len: usize) -> Span
     }
 }
 
+fn found(tok: Tok, rest: usize) -> Place
+    requires { rest ≤ 4098 }
+    ensures { (result.tok ≡ tok) × (result.rest ≡ rest) }
+{
+    Place {
+        tok,
+        rest: rest as u16,
+    }
+}
+
 impl<'a> Source<'a> {
     pub fn new(bytes: &'a [u8]) -> Result<Source<'a>, Refusal>
         ensures ok { IfOk result (λ s. s.bytes.now ≡ bytes.now) }
@@ -131,10 +141,7 @@ impl<'a> Source<'a> {
         ensures { tokens_at self.entry.bytes.now result ≡ tokens Between (drop at self.entry.bytes.now) }
     {
         let len = run_len(bytes_from(self.bytes, at), |b| is_letter(b) || is_digit(b));
-        Place {
-            tok: Tok::Word(span(at, len)),
-            rest: at + len,
-        }
+        found(Tok::Word(span(at, len)), at + len)
     }
 
     // Digits, and no letter after them.
@@ -145,15 +152,9 @@ impl<'a> Source<'a> {
         let len = run_len(bytes_from(self.bytes, at), is_digit);
         let rest = at + len;
         if is_letter(byte_at(self.bytes, rest)) {
-            return Place {
-                tok: Tok::Wrong,
-                rest,
-            };
+            return found(Tok::Wrong, rest);
         }
-        Place {
-            tok: Tok::Number(span(at, len)),
-            rest,
-        }
+        found(Tok::Number(span(at, len)), rest)
     }
 
     fn quoted_at(self, at: usize) -> Place
@@ -161,15 +162,9 @@ impl<'a> Source<'a> {
         ensures { tokens_at self.entry.bytes.now result ≡ tokens Between (drop at self.entry.bytes.now) }
     {
         let Some(len) = quoted_len(bytes_from(self.bytes, at + 1)) else {
-            return Place {
-                tok: Tok::Wrong,
-                rest: self.bytes.len(),
-            };
+            return found(Tok::Wrong, self.bytes.len());
         };
-        Place {
-            tok: Tok::Quoted(span(at + 1, len)),
-            rest: at + len + 2,
-        }
+        found(Tok::Quoted(span(at + 1, len)), at + len + 2)
     }
 
     // A sign of one byte or two; any other byte, and a lone bar, is no token.
@@ -194,10 +189,7 @@ impl<'a> Source<'a> {
             (b'|', b'|') => (Tok::Sign(Sign::Joined), 2),
             _ => (Tok::Wrong, 1),
         };
-        Place {
-            tok,
-            rest: at + len,
-        }
+        found(tok, at + len)
     }
 
     // The token at a place where no space stands.
@@ -219,17 +211,15 @@ impl<'a> Source<'a> {
     }
 
     // The first token from a place on.
-    pub fn next(self, from: usize) -> Place
+    pub fn next(self, from: u16) -> Place
         ensures { tokens_at self.entry.bytes.now result ≡ tokens Between (drop from self.entry.bytes.now) }
     {
+        let from = from as usize;
         let rest = bytes_from(self.bytes, from);
         let len = run_len(rest, is_space);
         if len < rest.len() {
             return self.cut(from + len);
         }
-        Place {
-            tok: Tok::End,
-            rest: from,
-        }
+        found(Tok::End, self.bytes.len())
     }
 }

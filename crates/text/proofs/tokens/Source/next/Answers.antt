@@ -18,4 +18,4 @@ returns-then-len-rest c = let bs = c.args.self.bytes.now in let n = c.run_len-le
 pub returns : goal.returns
 returns c = let rest = drop c.args.from c.args.self.bytes.now in let n = c.run_len-len.result in
     let run = cuts.run_is space _ _ _ _ (λ b r h. search rules) c.bytes_from-rest.ensures c.run_len-len.ensures in
-    cuts.nil-cut rest n (omega (arith, ap length c.bytes_from-rest.ensures, c.if-len-rest.false)) ∙ sym (cuts.space-run rest n run)
+    cuts.placed c.args.self.bytes.now _ _ _ _ c.found.ensures (cuts.nil-cut rest n (omega (arith, ap length c.bytes_from-rest.ensures, c.if-len-rest.false)) ∙ sym (cuts.space-run rest n run))

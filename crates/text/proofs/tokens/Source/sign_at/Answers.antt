@@ -8,7 +8,7 @@ use Rattle.text.proofs.tokens.Source.sign_at.Goals as goal
 pub returns : goal.returns
 unfolding is_in
 returns c = let s = c.args.self.bytes.now in let a = c.args.at in let l = c.requires.0 in let second = c.byte_at.ensures in
-    elim c.match-self-at.branch [
+    cuts.placed s _ _ _ _ c.found.ensures (elim c.match-self-at.branch [
       | in-40-default w ↦ cuts.matched s a _ _ _ w.tok-is (cuts.sign-cut s a l 40 refl w.in-40-default.is-0)
       | in-41-default w ↦ cuts.matched s a _ _ _ w.tok-is (cuts.sign-cut s a l 41 refl w.in-41-default.is-0)
       | in-44-default w ↦ cuts.matched s a _ _ _ w.tok-is (cuts.sign-cut s a l 44 refl w.in-44-default.is-0)
@@ -25,4 +25,4 @@ returns c = let s = c.args.self.bytes.now in let a = c.args.at in let l = c.requ
       | in-124-eq124 w ↦ cuts.matched s a _ _ _ w.tok-is (cuts.joined-cut s a l w.in-124-eq124.is-0 (sym second ∙ w.in-124-eq124.is-1))
       | in_default w ↦ cuts.matched s a _ _ _ w.tok-is (cuts.bar-cut s a l w.in_default.is-0 (λ e. w.in_default.is-1.1 (second ∙ e)))
       | in_default-2 w ↦ cuts.matched s a _ _ _ w.tok-is (cuts.wrong-cut s a l (c.requires.1.0, c.requires.1.1, c.requires.1.2, search rules, search rules, search rules) (grind (arith, nat_tests)) c.requires.1.3)
-    ]
+    ])
