@@ -119,9 +119,9 @@ fn halve<F: Fn(usize) -> bool>(n: usize, test: F) -> usize
     requires { F.IsAlwaysCallable test }
     ensures { (f : ℕ → Bool) → Tells (F.post test) n f → Falls n f → Halved n f result }
 {
-    // kept: halving by hand, by (d): the library halves slices, and a page's entries lie in none
     let mut low = 0;
     let mut high = n;
+    // kept: halving by hand, by (d): the library halves slices, and a page's entries lie in none
     while low < high {
         let middle = low + (high - low) / 2;
         if test(middle) {
