@@ -124,10 +124,8 @@ impl<'o, 'a> Printer<'o, 'a> {
     #[cycle(printing)]
     fn list(&mut self, before: &[u8], first: u16, left: usize) -> Result<(), AllocError> {
         self.say(before)?;
-        let mut left = left;
         let mut next = Some(first);
-        while left > 0 {
-            left -= 1;
+        for left in (0..left).rev() {
             let Some(i) = next else {
                 return Ok(());
             };

@@ -1,4 +1,4 @@
-use Rattle.std.proofs.Common.{◌+◌, ◌*◌, ◌≤◌}
+use Rattle.std.proofs.Common.{◌+◌, ◌*◌}
 use Rattle.reading.proofs.printer.Printer.+printing.Given as goal
 
 abbrev pub decreases-expr : goal.decreases-expr
@@ -27,9 +27,3 @@ decreases-item l = 4 * l.left + 2
 
 abbrev pub decreases-question : goal.decreases-question
 decreases-question l = 4 * l.left + 3
-
-abbrev pub invariant-list-loop-left : goal.invariant-list-loop-left
-invariant-list-loop-left l = l.left ≤ l.initial.left
-
-abbrev pub decreases-list-loop-left : goal.decreases-list-loop-left
-decreases-list-loop-left l = l.left
