@@ -1,6 +1,7 @@
 // Reads each line of standard input as a statement, and prints it as it was read, or `no 1` where it is none and `no 10` where it is too long.
 #![tactic(auto)]
 
+use std::alloc::AllocError;
 use std::io;
 use std::io::{Read, Write};
 use text::{Nodes, Refusal, read};
@@ -9,7 +10,7 @@ mod printer;
 
 use printer::Printer;
 
-fn answer(nodes: &mut Nodes, line: &[u8], out: &mut Vec<u8>) -> io::Result<()> {
+fn answer(nodes: &mut Nodes, line: &[u8], out: &mut Vec<u8>) -> Result<(), AllocError> {
     match read(nodes, line) {
         Ok(statement) => {
             let mut printer = Printer {
@@ -22,7 +23,7 @@ fn answer(nodes: &mut Nodes, line: &[u8], out: &mut Vec<u8>) -> io::Result<()> {
         Err(Refusal::Unread) => out.extend_from_slice(b"no 1")?,
         Err(Refusal::TooLong) => out.extend_from_slice(b"no 10")?,
     }
-    Ok(out.push(b'\n')?)
+    out.extend_from_slice(b"\n")
 }
 
 fn main(rt: HostRuntime) -> io::Result<()> {

@@ -1,8 +1,7 @@
 // A read statement printed: keywords small, one blank between words, every compound expression in brackets.
 //
 // The number left falls with each call, so that it ends on any nodes; a read statement nests less deep than it has nodes.
-use std::io;
-use std::io::Write;
+use std::alloc::AllocError;
 use text::{Fold, Node, Nodes, Op, Question, Span, Statement, Table, bytes_of};
 
 fn sign(op: Op) -> &'static [u8] {
@@ -37,11 +36,11 @@ pub struct Printer<'o, 'a> {
 }
 
 impl<'o, 'a> Printer<'o, 'a> {
-    fn say(&mut self, bytes: &[u8]) -> io::Result<()> {
-        Ok(self.out.extend_from_slice(bytes)?)
+    fn say(&mut self, bytes: &[u8]) -> Result<(), AllocError> {
+        self.out.extend_from_slice(bytes)
     }
 
-    fn name(&mut self, span: Span) -> io::Result<()> {
+    fn name(&mut self, span: Span) -> Result<(), AllocError> {
         let text = self.text;
         for b in bytes_of(text, span) {
             self.out.push(b.to_ascii_lowercase())?;
@@ -49,18 +48,19 @@ impl<'o, 'a> Printer<'o, 'a> {
         Ok(())
     }
 
-    fn number(&mut self, n: u64) -> io::Result<()> {
-        write!(self.out, "{n}")
+    fn number(&mut self, n: u64) -> Result<(), AllocError> {
+        let digits = format!(in *self.out.allocator(); "{n}")?;
+        self.say(digits.as_bytes())
     }
 
-    fn quoted(&mut self, span: Span) -> io::Result<()> {
+    fn quoted(&mut self, span: Span) -> Result<(), AllocError> {
         let text = self.text;
         self.say(b"'")?;
         self.say(bytes_of(text, span))?;
         self.say(b"'")
     }
 
-    fn column(&mut self, source: Option<Span>, column: Span) -> io::Result<()> {
+    fn column(&mut self, source: Option<Span>, column: Span) -> Result<(), AllocError> {
         if let Some(source) = source {
             self.name(source)?;
             self.say(b".")?;
@@ -70,20 +70,26 @@ impl<'o, 'a> Printer<'o, 'a> {
 
     // An expression between two texts.
     #[cycle(printing)]
-    fn within(&mut self, before: &[u8], i: u16, after: &[u8], left: usize) -> io::Result<()> {
+    fn within(
+        &mut self,
+        before: &[u8],
+        i: u16,
+        after: &[u8],
+        left: usize,
+    ) -> Result<(), AllocError> {
         self.say(before)?;
         self.expr(i, left)?;
         self.say(after)
     }
 
     #[cycle(printing)]
-    fn both(&mut self, op: Op, a: u16, b: u16, left: usize) -> io::Result<()> {
+    fn both(&mut self, op: Op, a: u16, b: u16, left: usize) -> Result<(), AllocError> {
         self.within(b"(", a, sign(op), left)?;
         self.within(b"", b, b")", left)
     }
 
     #[cycle(printing)]
-    fn expr(&mut self, i: u16, left: usize) -> io::Result<()> {
+    fn expr(&mut self, i: u16, left: usize) -> Result<(), AllocError> {
         if left == 0 {
             return Ok(());
         }
@@ -105,7 +111,7 @@ impl<'o, 'a> Printer<'o, 'a> {
     }
 
     #[cycle(printing)]
-    fn query_within(&mut self, before: &[u8], i: u16, left: usize) -> io::Result<()> {
+    fn query_within(&mut self, before: &[u8], i: u16, left: usize) -> Result<(), AllocError> {
         self.say(before)?;
         self.query(i, left)?;
         self.say(b")")
@@ -113,24 +119,24 @@ impl<'o, 'a> Printer<'o, 'a> {
 
     // The items of a list, with commas, after a text.
     #[cycle(printing)]
-    fn list(&mut self, before: &[u8], first: u16, left: usize) -> io::Result<()> {
+    fn list(&mut self, before: &[u8], first: u16, left: usize) -> Result<(), AllocError> {
         self.say(before)?;
         let mut next = Some(first);
-        for turn in (0..left).rev() {
+        for left in (0..left).rev() {
             let Some(i) = next else {
                 return Ok(());
             };
             if i != first {
                 self.say(b", ")?;
             }
-            next = self.item(i, turn)?;
+            next = self.item(i, left)?;
         }
         Ok(())
     }
 
     // One item of a list; what it gives is the next one.
     #[cycle(printing)]
-    fn item(&mut self, i: u16, left: usize) -> io::Result<Option<u16>> {
+    fn item(&mut self, i: u16, left: usize) -> Result<Option<u16>, AllocError> {
         match self.nodes.get(i) {
             Node::Item(e, rest) => {
                 self.expr(e, left)?;
@@ -155,7 +161,7 @@ impl<'o, 'a> Printer<'o, 'a> {
     }
 
     // An item that holds no expression.
-    fn plain_item(&mut self, node: Node) -> io::Result<Option<u16>> {
+    fn plain_item(&mut self, node: Node) -> Result<Option<u16>, AllocError> {
         match node {
             Node::Source(table, rest) => {
                 self.table(table)?;
@@ -178,7 +184,7 @@ impl<'o, 'a> Printer<'o, 'a> {
     }
 
     // The alias is left out where it is the table's own name.
-    fn table(&mut self, table: Table) -> io::Result<()> {
+    fn table(&mut self, table: Table) -> Result<(), AllocError> {
         self.name(table.name)?;
         let name = bytes_of(self.text, table.name);
         let alias = bytes_of(self.text, table.alias);
@@ -190,7 +196,7 @@ impl<'o, 'a> Printer<'o, 'a> {
 
     // A clause with a condition, left out where it is 1.
     #[cycle(printing)]
-    fn condition(&mut self, word: &[u8], i: u16, left: usize) -> io::Result<()> {
+    fn condition(&mut self, word: &[u8], i: u16, left: usize) -> Result<(), AllocError> {
         match self.nodes.get(i) {
             Node::Number(1) => Ok(()),
             _ => self.within(word, i, b"", left),
@@ -198,7 +204,7 @@ impl<'o, 'a> Printer<'o, 'a> {
     }
 
     #[cycle(printing)]
-    fn query(&mut self, i: u16, left: usize) -> io::Result<()> {
+    fn query(&mut self, i: u16, left: usize) -> Result<(), AllocError> {
         match self.nodes.get(i) {
             Node::Query(q) if left > 0 => self.question(q, left - 1),
             _ => Ok(()),
@@ -206,7 +212,7 @@ impl<'o, 'a> Printer<'o, 'a> {
     }
 
     #[cycle(printing)]
-    fn question(&mut self, q: Question, left: usize) -> io::Result<()> {
+    fn question(&mut self, q: Question, left: usize) -> Result<(), AllocError> {
         self.say(b"select ")?;
         if q.distinct {
             self.say(b"distinct ")?;
@@ -227,7 +233,7 @@ impl<'o, 'a> Printer<'o, 'a> {
         }
     }
 
-    fn limit(&mut self, i: u16) -> io::Result<()> {
+    fn limit(&mut self, i: u16) -> Result<(), AllocError> {
         let Node::Limit(most, skip) = self.nodes.get(i) else {
             return Ok(());
         };
@@ -241,18 +247,18 @@ impl<'o, 'a> Printer<'o, 'a> {
     }
 
     // A word, and a name after it.
-    fn named(&mut self, word: &[u8], of: Span) -> io::Result<()> {
+    fn named(&mut self, word: &[u8], of: Span) -> Result<(), AllocError> {
         self.say(word)?;
         self.name(of)
     }
 
     // A list in brackets.
-    fn bracketed(&mut self, first: u16) -> io::Result<()> {
+    fn bracketed(&mut self, first: u16) -> Result<(), AllocError> {
         self.list(b" (", first, 8200)?;
         self.say(b")")
     }
 
-    pub fn print(&mut self, statement: Statement) -> io::Result<()> {
+    pub fn print(&mut self, statement: Statement) -> Result<(), AllocError> {
         match statement {
             Statement::CreateTable(table, cols) => {
                 self.named(b"create table ", table)?;

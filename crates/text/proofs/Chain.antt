@@ -1,5 +1,5 @@
 -- Lists of items: an item, and what follows it. Assumes nothing.
-use Rattle.std.proofs.Common.{◌≡◌, ℕ, ◌+◌, ◌*◌, ◌<◌, ◌≤◌, false, true, List, [], ◌∷◌, length, Some, None, Option, sym, refl, subst, ◌∙◌, arith}
+use Rattle.std.proofs.Common.{◌≡◌, ℕ, ◌+◌, ◌*◌, ◌≤◌, false, true, List, [], ◌∷◌, length, Some, None, Option, sym, refl, subst, ◌∙◌, arith}
 use Rattle.meaning.specs.Text.{Token}
 use Rattle.grammar.specs.Reader.{Reader, Got, gets, listed, choose, and_then, is_sign, head_is, tail_of}
 use Rattle.grammar.proofs.Tools.{choose_yes, choose_no, then_is}

@@ -258,9 +258,6 @@ at_on : (s : List ℕ) (a n : ℕ) → get_or (drop a s) n 0 ≡ get_or s (a + n
 at_on s a n = get_or-drop a s n 0
 
 module _ (s : List ℕ) (a : ℕ) (l : a < length s) where
-  first_on : get_or (drop a s) 0 0 ≡ get_or s a 0
-  first_on = at_on s a 0 ∙ ap (λ i. get_or s i 0) (add-zero a)
-
   pub word_cut : (n : ℕ) → letter (get_or s a 0) ≡ true → Run in_word (drop a s) n → Word (map small (take n (drop a s))) ∷ tokens Between (drop (a + n) s) ≡ tokens Between (drop a s)
   word_cut n h r = sym (ap (tokens Between) (from_at s a l) ∙ word-begins (get_or s a 0) (drop (a + 1) s) h ∙ ap (tokens (InWord [])) (sym (from_at s a l)) ∙ word-run [] (drop a s) n r ∙ ap (λ v. Word (map small (take n (drop a s))) ∷ tokens Between v) (drop-on s a n))
 

@@ -1,5 +1,5 @@
 -- The steps that the parts of the reader share. Assumes nothing.
-use Rattle.std.proofs.Common.{◌≡◌, ℕ, zero, suc, ◌+◌, ◌-◌, ◌*◌, ◌<◌, ◌≤◌, Bool, true, false, cond, ltb, List, [], ◌∷◌, length, drop, pos, Some, None, Option, sym, refl, ap, ◌∙◌, inl, inr, sub-one, arith}
+use Rattle.std.proofs.Common.{◌≡◌, ℕ, zero, suc, ◌+◌, ◌*◌, ◌<◌, ◌≤◌, Bool, true, false, cond, ltb, List, [], ◌∷◌, length, drop, pos, Some, None, Option, sym, refl, ap, ◌∙◌, inl, inr, arith}
 use Rattle.std.proofs.lemmas.Bool.{lt-ltb}
 use Rattle.meaning.specs.Value as value
 use Rattle.meaning.specs.Value.{Num}
@@ -21,7 +21,7 @@ use Rattle.text.specs.declared.tokens.Tok.TheVariants as tok
 use Rattle.text.specs.declared.tokens.Place.{Place}
 use Rattle.text.specs.declared.parts.Parsed.{Parsed}
 use Rattle.text.specs.declared.parts.Operand.{Operand}
-use Rattle.text.proofs.Stood.{grown-length, grown-on, pushed}
+use Rattle.text.proofs.Stood.{grown-on, pushed}
 
 -- one token less
 pub taken-length : (p : Token → Bool) (ts us : List Token) → head_is p ts ≡ true → us ≡ tail_of ts → length ts ≡ length us + 1

@@ -1,6 +1,6 @@
 -- What the token at a place says of the tokens from there. Assumes nothing.
 use Rattle.std.proofs.Common.{◌≡◌, ℕ, zero, suc, ◌+◌, ◌-◌, ◌*◌, ◌<◌, ◌≤◌, Bool, true, false, cond, not, ltb, ◌==◌, ◌⊎◌, List, [], ◌∷◌, map, length, get_or, drop, sym, refl, ap, ◌∙◌, inl, inr, arith}
-use Rattle.std.proofs.lemmas.Bool.{eq-eqb, ne_eqb, lt-ltb, le-ltb}
+use Rattle.std.proofs.lemmas.Bool.{lt-ltb, le-ltb}
 use Rattle.std.proofs.lemmas.List.{at_drop_more, at_drop_all}
 use Rattle.meaning.specs.Text as text
 use Rattle.meaning.specs.Text.{Token, Between, tokens, small, keywords, less_by, k_or, k_and, k_is}
@@ -57,12 +57,6 @@ module _ (b : List ℕ) (x : Place) where
   pub number-taken : (p : Span) (w : List ℕ) (v : ℕ) (ts : List Token) → x.tok ≡ Number p → w ≡ part b p → v ≡ decimal 0 w → v < 9223372036854775808 → ts ≡ tokens Between (drop x.rest b) → a_number (tokens_at b x) ≡ gets v ts
   unfolding a_number
   number-taken p w v ts e i h l k = ap a_number (by-tok e) ∙ ap (λ n. cond (ltb n 9223372036854775808) (gets n (tokens Between (drop x.rest b))) refuses) (sym (h ∙ ap (decimal 0) i)) ∙ ap (λ c. cond c (gets v (tokens Between (drop x.rest b))) refuses) (lt-ltb v 9223372036854775808 l) ∙ ap (gets v) (sym k)
-
-  pub sign-joint : (c : Signs) → x.tok ≡ Sign c → joint_of (tokens_at b x) ≡ joint (text.Sign (number_of c))
-  sign-joint c e = ap joint_of (by-tok e)
-
-  pub sign-tail : (c : Signs) (ts : List Token) → x.tok ≡ Sign c → ts ≡ tokens Between (drop x.rest b) → ts ≡ tail_of (tokens_at b x)
-  sign-tail c ts e k = k ∙ ap tail_of (sym (by-tok e))
 
 pub sign-none : (d : ℕ) (b : List ℕ) (t : Tok) (r : ℕ) → ((c : Signs) → t ≡ Sign c → ⊥) → head_is (is_sign d) (tokens_of b t r) ≡ false
 unfolding is_sign

@@ -5,7 +5,7 @@ use Rattle.meaning.specs.Tree.{Expr}
 use Rattle.meaning.specs.Text.{Token, Word, k_is}
 use Rattle.meaning.specs.Meaning.{same_name}
 use Rattle.grammar.specs.Reader.{refuses, gets, and_then, head_is, tail_of, is_word, Joint, ends, tests, joins, null_test, tested}
-use Rattle.grammar.proofs.Tools.{clash, then_is, then-refused, word-is}
+use Rattle.grammar.proofs.Tools.{clash, then_is, word-is}
 use Rattle.grammar.specs.Reader as reader
 use Rattle.text.specs.Cut.{tokens_at}
 use Rattle.text.specs.Stands.{filled}

@@ -7,7 +7,6 @@ use Rattle.meaning.specs.Tree.{Name, Source, Limit, Expr, Exprs, Keys, Query, qu
 use Rattle.text.specs.Cut.{part, name, undoubled}
 use Rattle.text.specs.declared.nodes.Span.{Span}
 use Rattle.text.specs.declared.nodes.Question.{Question}
-use Rattle.text.specs.declared.nodes.Key as made_key
 use Rattle.text.specs.declared.nodes.Table as made_table
 use Rattle.text.specs.declared.nodes.Col as made_col
 use Rattle.text.specs.declared.nodes.Row as made_row

@@ -64,9 +64,7 @@ pub fn expr(
 {
     let left = left.checked_sub(1)?;
     let mut a = operand(nodes, source, at, level, left)?;
-    let mut turns = left;
-    while turns > 0 {
-        turns -= 1;
+    for turns in (0..left).rev() {
         let Some(b) = further(nodes, source, a, level, turns)? else {
             return Some(Parsed {
                 value: a.value.it,

@@ -82,6 +82,7 @@ fn run_len<F: Fn(u8) -> bool>(bytes: &[u8], is_kind: F) -> usize
 }
 
 // How many bytes stand before the closing quote.
+// kept: (d) counts by hand, as two quotes are one step: an iterator that looks ahead at the next byte is no plainer.
 fn quoted_len(s: &[u8]) -> Option<usize>
     ensures { MatchOption result (tokens (InQuotes []) s.now ≡ Faulty ∷ []) (λ n. (n < length s.now) × (tokens (InQuotes []) s.now ≡ Quote (undoubled false (take n s.now)) ∷ tokens Between (drop (n + 1) s.now))) }
 {

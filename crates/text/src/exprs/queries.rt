@@ -13,7 +13,7 @@ use crate::sources::{distinction, limits};
 use crate::tokens::{Place, Sign, Source};
 
 // A list of expressions.
-// kept: (c) not an `Item` of `lists`, nor are keys: a generic function can't be one of the functions that call each other here.
+// kept: (c) no `Item` of `lists`, nor are keys: no proof is made where a generic function leads back to its caller by an impl's method.
 #[cycle(climb)]
 pub fn exprs(nodes: &mut Nodes, source: Source<'_>, at: Place, left: usize) -> Option<Parsed<Terms>>
     requires { Ready source.bytes.now nodes.old at }

@@ -1,4 +1,4 @@
-use Rattle.std.proofs.Common.{◌≡◌, suc, ◌-◌, true, false, cond, ◌||◌, [], ◌∷◌, length, pos, Some, None, sym, refl, ap, ◌∙◌, subst, inl, inr, add-one, arith}
+use Rattle.std.proofs.Common.{suc, ◌-◌, true, false, cond, ◌||◌, [], ◌∷◌, length, pos, Some, None, sym, refl, ap, ◌∙◌, subst, inl, inr, add-one, arith}
 use Rattle.std.proofs.lemmas.Bool.{le-leb}
 use Rattle.meaning.specs.Value as value
 use Rattle.meaning.specs.Tree as tree

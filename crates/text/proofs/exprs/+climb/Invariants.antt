@@ -52,6 +52,3 @@ decreases-queries::question l = 8 * l.left + 3
 
 abbrev pub invariant-expr-loop-turns : goal.invariant-expr-loop-turns
 invariant-expr-loop-turns l = Turning l.source.bytes.now l.initial.nodes l.nodes l.level l.initial.turns l.turns l.initial.a l.a
-
-abbrev pub decreases-expr-loop-turns : goal.decreases-expr-loop-turns
-decreases-expr-loop-turns l = l.turns

@@ -1,14 +1,10 @@
-use Rattle.std.proofs.Common.{rules, true, false, refl, sym, ap, ◌∙◌, arith}
+use Rattle.std.proofs.Common.{rules, refl, sym, ◌∙◌}
 use Rattle.meaning.specs.Tree as tree
 use Rattle.meaning.specs.Text.{k_create, k_drop, k_insert, k_update, k_delete, k_begin, k_commit, k_rollback, k_savepoint, k_release}
 use Rattle.grammar.specs.Reader as reader
 use Rattle.grammar.specs.Reader.{is_sign, is_word}
 use Rattle.grammar.proofs.Tools.{choose_yes, choose_no, then_is, then-refused}
-use Rattle.text.specs.Cut.{tokens_at, name}
-use Rattle.text.specs.Stands.{filled}
-use Rattle.text.proofs.Stood.{grown-none, kept}
-use Rattle.text.proofs.Steps.{taken-length, name-length}
-use Rattle.text.proofs.Columns.{name-said, names-says, names_same, says_same}
+use Rattle.text.proofs.Columns.{name-said, names-says, says_same}
 use Rattle.text.proofs.statements.statement.Goals as goal
 
 pub returns-in-Some : goal.returns-in-Some

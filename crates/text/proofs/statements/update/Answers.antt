@@ -1,4 +1,4 @@
-use Rattle.std.proofs.Common.{true, false, refl, sym, ap, ◌∙◌, arith}
+use Rattle.std.proofs.Common.{refl, ◌∙◌, arith}
 use Rattle.meaning.specs.Tree as tree
 use Rattle.meaning.specs.Text.{k_set}
 use Rattle.grammar.specs.Reader as reader
@@ -6,9 +6,7 @@ use Rattle.grammar.specs.Reader.{is_sign, is_word}
 use Rattle.grammar.proofs.Tools.{choose_yes, choose_no, then_is, then-refused}
 use Rattle.text.specs.Cut.{tokens_at, name}
 use Rattle.text.specs.Stands.{filled}
-use Rattle.text.proofs.Stood.{grown-none, kept}
 use Rattle.text.proofs.Steps.{taken-length, name-length}
-use Rattle.text.proofs.Columns.{name-item, name-said, names-says, says_same}
 use Rattle.text.proofs.statements.update.Goals as goal
 
 pub returns-in_err-name : goal.returns-in_err-name

@@ -1,4 +1,4 @@
-use Rattle.std.proofs.Common.{sym, ap, ◌∙◌}
+use Rattle.std.proofs.Common.{sym, ◌∙◌}
 use Rattle.meaning.specs.Text.{k_asc, k_desc}
 use Rattle.grammar.specs.Reader.{is_word, gets}
 use Rattle.grammar.proofs.Tools.{choose_yes, choose_no}

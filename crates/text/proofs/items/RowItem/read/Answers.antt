@@ -1,4 +1,4 @@
-use Rattle.std.proofs.Common.{◌<◌, ◌∙◌, arith}
+use Rattle.std.proofs.Common.{◌∙◌, arith}
 use Rattle.grammar.specs.Reader.{is_sign, to_exprs}
 use Rattle.grammar.proofs.Tools.{choose_yes, choose_no, then_is, then-refused}
 use Rattle.text.specs.Cut.{tokens_at}

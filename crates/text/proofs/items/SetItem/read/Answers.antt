@@ -1,4 +1,4 @@
-use Rattle.std.proofs.Common.{◌<◌, refl, ◌∙◌, arith}
+use Rattle.std.proofs.Common.{refl, ◌∙◌, arith}
 use Rattle.grammar.specs.Reader.{is_sign}
 use Rattle.grammar.proofs.Tools.{choose_yes, choose_no, then_is, then-refused}
 use Rattle.text.specs.Cut.{tokens_at, name}

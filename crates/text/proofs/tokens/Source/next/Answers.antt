@@ -1,6 +1,6 @@
-use Rattle.std.proofs.Common.{rules, ◌+◌, length, drop, sym, ap, ◌∙◌, arith, length-drop, get_or-drop, drop-drop}
+use Rattle.std.proofs.Common.{rules, length, drop, sym, ap, ◌∙◌, arith, length-drop, get_or-drop, drop-drop}
 use Rattle.meaning.specs.Text.{tokens, Between}
-use Rattle.text.specs.Cut.{space, Run}
+use Rattle.text.specs.Cut.{space}
 use Rattle.text.proofs.Cuts as cuts
 use Rattle.text.proofs.tokens.Source.next.Goals as goal
 
