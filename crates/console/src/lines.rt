@@ -7,6 +7,7 @@ use std::io::BufRead;
 pub const HELD: usize = 4097;
 
 // Takes the line's next part from what was read; how many bytes that were, and whether the line has ended.
+// kept: (d) a number and a flag: both are there in each case
 fn take_part(part: &[u8], line: &mut Vec<u8>) -> io::Result<(usize, bool)> {
     let end = part.iter().position(|byte| *byte == b'\n');
     let text = &part[..end.unwrap_or(part.len())];
@@ -19,10 +20,11 @@ fn take_part(part: &[u8], line: &mut Vec<u8>) -> io::Result<(usize, bool)> {
 }
 
 // Reads the next line, without its line feed, and no more of it than is held; false at the end of the input.
+// kept: (d) whether there was a line: it stands in what the caller lends, so that an Option would hold nothing
 pub fn read_line<R: BufRead>(input: &mut R, line: &mut Vec<u8>) -> io::Result<bool> {
     line.clear();
     let mut any = false;
-    // kept: a count that is not reached, since a call has to end and nothing counts down to its end
+    // kept: (c) a count that is not reached: a loop has to end, and what is left of the input is no number that falls
     for _ in 0..u64::MAX {
         let part = input.fill_buf()?;
         if part.is_empty() {
@@ -46,7 +48,7 @@ pub fn for_each_line<R: BufRead, F: FnMut(&[u8]) -> Result<(), Stop>>(
 ) -> Result<(), Stop>
     requires { F.IsAlwaysCallable answer }
 {
-    // kept: a count that is not reached, since a call has to end and nothing counts down to its end
+    // kept: (c) a count that is not reached: a loop has to end, and what is left of the input is no number that falls
     for _ in 0..u64::MAX {
         if !read_line(input, line)? {
             return Ok(());

@@ -65,6 +65,7 @@ impl Vector {
         ensures { IfOk result (λ v. Blank size v) }
     {
         let mut kept = Vec::new(heap);
+        // kept: (c) each sector pushed: by `vec!` a proof doesn't know that the clone of an array is that array
         for _ in 0..size {
             kept.push([0; 512])?;
         }

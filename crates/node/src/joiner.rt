@@ -18,7 +18,7 @@ pub const CAPACITY: usize = 4088;
 pub struct Joiner {
     pages: Vec<[u8; 4096]>,
     // how many of them are in use
-    // kept: a length beside them, by (a): to push a page onto the others would need a page on the stack
+    // kept: (d) a length beside them: pages are made where they lie, and to push one would make it elsewhere and copy it
     len: usize,
     level: u8,
 }

@@ -30,6 +30,7 @@ pub struct Entry<'a> {
 }
 
 // A page that is read as a node.
+// kept: (d) that it is whole stands as a premise: as a fact of the type it would have to be tested at each reading, over all entries
 #[derive(Clone, Copy)]
 pub struct Node<'a> {
     pub page: &'a [u8],
@@ -121,7 +122,7 @@ fn halve<F: Fn(usize) -> bool>(n: usize, test: F) -> usize
 {
     let mut low = 0;
     let mut high = n;
-    // kept: halving by hand, by (d): the library halves slices, and a page's entries lie in none
+    // kept: (d) halving by hand: the library halves slices, and a page's entries lie in none
     while low < high {
         let middle = low + (high - low) / 2;
         if test(middle) {

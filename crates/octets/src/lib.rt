@@ -85,7 +85,7 @@ pub fn is_blank(bytes: &[u8]) -> bool
 }
 
 // The order of texts and keys: by bytes, a beginning first.
-// kept: a name for `<`, since its contract says which order of the meaning that is
+// kept: (d) a name for `<`: callers have its contract, which says that it is the order of the meaning
 pub fn less(a: &[u8], b: &[u8]) -> bool
     ensures { result ≡ less_bytes a.now b.now }
 {

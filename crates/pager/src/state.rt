@@ -16,7 +16,7 @@ pub enum Call {
     Undo,
 }
 
-// kept: refusals are variants and no Err, since a reply is passed on as one value by each layer, and none goes on with `?`
+// kept: (d) refusals are variants and no Err: a layer passes a reply on as one value, and none goes on with `?`
 #[derive(Clone, Copy, PartialEq, Eq)]
 pub enum Reply {
     // the bytes of the page are shown
@@ -31,6 +31,7 @@ pub enum Reply {
 }
 
 // What is under way, mostly by what was asked for last.
+// kept: (a) a phase and no closure: a step ends where something is asked for, and the next goes on from what is held in fixed memory
 #[derive(Clone, Copy)]
 pub enum Phase {
     Opening,
@@ -66,13 +67,14 @@ pub struct Pager {
     // whether the second area is the active one
     second: bool,
     // the slot of each page as committed and at present; 0 for a blank page
-    // kept: two arrays, since a commit copies parts of one over the other and an undo the other way, by one function
+    // kept: (a) 0 and no Option: a number of 8 bytes a page is what the device holds, and an Option would take 16 of the memory that is promised
+    // kept: (d) two arrays: a commit copies parts of one over the other and an undo the other way, by one function
     base: Vec<u64>,
     present: Vec<u64>,
     // the page that each slot was last given to
     owner: Vec<u64>,
     // map sectors that were changed since the last commit; that are not the same in the other area
-    // kept: two arrays, since a commit makes the second a copy of the first and clears that, each by one call
+    // kept: (d) two arrays: a commit makes the second a copy of the first and clears that, each by one call
     dirty: Vec<bool>,
     behind: Vec<bool>,
     // where to look for a free slot first

@@ -18,6 +18,7 @@ pub enum PageCall {
 }
 
 // What is under way, by what was asked of the pager last.
+// kept: (a) a phase and no closure: a step ends where something is asked for, and the next goes on from what is held in fixed memory
 #[derive(Clone, Copy)]
 pub enum Doing {
     Rising,
@@ -44,8 +45,7 @@ pub enum Doing {
 #[derive(Drop)]
 pub struct Frames {
     doing: Doing,
-    // kept: three arrays and a tag of eight bytes, since the memory that is promised is counted to the byte: a struct of an
-    // Option<u64>, a flag and 4,096 bytes takes 15 bytes more a frame by its padding
+    // kept: (a) three arrays, and 0 for no page: the memory that is promised is counted to the byte, and a struct of an Option, a flag and 4,096 bytes takes 15 more a frame
     // the page in each frame, plus one; 0 where there is none
     tags: Vec<u64>,
     // frames that the pager lacks

@@ -3,7 +3,7 @@ use console::{Disk, Stop};
 use device::vector::Vector;
 use std::alloc::{AllocError, Global};
 
-// Power fails after so many asks more, and has failed at 0; the seed chooses what is kept.
+// Power fails after so many asks more; the seed chooses what is kept.
 #[derive(Clone, Copy)]
 struct Planned {
     asks: u64,
@@ -30,6 +30,11 @@ impl CutDisk {
         Ok(())
     }
 
+    // How many cuts are still to come.
+    pub fn planned(&self) -> usize {
+        self.planned.len()
+    }
+
     // Power fails now.
     pub fn cut(&mut self, seed: u64) {
         self.vector.cut(seed);
@@ -39,12 +44,13 @@ impl CutDisk {
     fn count(&mut self) -> Result<(), Stop> {
         let mut served = Ok(());
         for plan in self.planned.iter_mut() {
-            if plan.asks == 1 {
+            plan.asks = plan.asks.saturating_sub(1);
+            if plan.asks == 0 {
                 self.vector.cut(plan.seed);
                 served = Err(Stop::Cut);
             }
-            plan.asks = plan.asks.saturating_sub(1);
         }
+        self.planned.retain(|plan| plan.asks > 0);
         served
     }
 }

@@ -74,8 +74,8 @@ impl Rehearsal {
 
     // Comes up, however often the power fails in it.
     fn rise(&mut self) -> Result<(), Stop> {
-        // kept: a count that is not reached, since a call has to end and nothing counts down to its end
-        for _ in 0..u64::MAX {
+        // each failure uses up a cut that was planned
+        for _ in 0..=self.disk.planned() {
             if self.up {
                 return Ok(());
             }

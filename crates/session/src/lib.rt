@@ -47,6 +47,7 @@ pub enum Value {
 }
 
 // What a call is answered by.
+// kept: (d) refusals are variants and no Err: each is an answer that is printed, and nothing goes on after one with `?`
 #[derive(Clone, Copy, Debug, PartialEq, Eq)]
 pub enum Reply {
     // refused; nothing has changed

@@ -14,7 +14,7 @@ use text::Nodes;
 pub const HEADER: u64 = 0;
 
 // What is under way.
-// kept: a stage and no closure, since a step ends where something is asked for, and the next goes on from what is held in fixed memory
+// kept: (a) a stage and no closure: a step ends where something is asked for, and the next goes on from what is held in fixed memory
 #[derive(Clone, Copy)]
 pub enum Doing {
     Rising,

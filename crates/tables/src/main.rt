@@ -46,7 +46,7 @@ impl Console {
 
     // The rows of the query that runs, up to its end.
     fn rows(&mut self, rt: &HostRuntime) -> Result<(), Stop> {
-        // kept: a count that is not reached, since a call has to end and nothing counts down to its end
+        // kept: (c) a count that is not reached: a loop has to end, and the rows of a query are no number that falls
         for _ in 0..u64::MAX {
             self.engine.next();
             let reply = self.hear()?;
@@ -128,8 +128,8 @@ impl From<Stop> for Failure {
 fn run(rt: &HostRuntime, path: &str) -> Result<(), Failure> {
     let disk = FileDisk::open(rt, path).map_err(Failure::File)?;
     let bytes = disk.bytes();
-    // a part of a sector makes it no device
-    let engine = Engine::open(rt.alloc(), disk.sectors().unwrap_or(0)).map_err(|why| match why {
+    let sectors = disk.sectors().ok_or(Failure::Size(bytes))?;
+    let engine = Engine::open(rt.alloc(), sectors).map_err(|why| match why {
         Unopened::Size => Failure::Size(bytes),
         Unopened::Memory => Failure::Memory,
     })?;

@@ -4,6 +4,7 @@ ghost use Rattle.std.specs.Prelude.{◌≡◌, ◌≤◌, vec_capacity};
 use std::alloc::{AllocError, Global};
 
 // A part of the statement's bytes.
+// kept: (d) two numbers and no slice: nodes outlive the call that was lent the bytes
 #[derive(Clone, Copy)]
 pub struct Span {
     pub from: u16,
@@ -81,6 +82,7 @@ pub struct Set {
 }
 
 // What a node says: others by their index, names and texts as parts of the statement's bytes.
+// kept: (a) an arena of numbers: all memory is taken once, and a Box for each node would be taken at each statement
 #[derive(Clone, Copy)]
 pub enum Node {
     Null,

@@ -20,13 +20,14 @@ fn write_keys(numbers: &[i64], texts: &[u8], keys: &mut [u8]) -> Option<usize> {
 }
 
 // The keys of the numbers and texts, one behind the other; how many bytes they take, or 0 where they have no room.
-// kept: the 0, by (a): C has no Option
+// kept: (a) the 0: C has no Option
 #[unsafe(no_mangle)]
 pub extern "C" fn values_write_keys(numbers: &[i64], texts: &[u8], keys: &mut [u8]) -> usize {
     write_keys(numbers, texts, keys).unwrap_or(0)
 }
 
 // How many keys of 16 bytes are less than the one `step` keys further on.
+// kept: (b) a sum in a `for`: by `zip`, `filter` and `count` it took 3.1 to 3.8 times plain Rust's time, and may take 3
 #[unsafe(no_mangle)]
 pub extern "C" fn values_count_less(keys: &[u8], step: usize) -> usize {
     let (keys, _) = keys.as_chunks::<16>();

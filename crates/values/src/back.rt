@@ -47,6 +47,7 @@ fn unescape<'k>(bytes: &'k [u8], out: &mut [u8; 4000]) -> Option<(usize, &'k [u8
 {
     let mut rest = bytes;
     let mut len = 0;
+    // kept: (c) a place counted by hand: where a byte goes in by `get_mut`, a proof doesn't know that it was written
     loop {
         match next_byte(rest)? {
             Next::Byte(byte, behind) => {

@@ -10,6 +10,7 @@ pub const LONGEST: usize = 4000;
 
 impl<'a> Value<'a> {
     // The order of values: null, then numbers, then texts by bytes.
+    // kept: (d) names for `<` and `==`: callers have their contracts, which say that they are the meaning's
     pub fn less(self, other: Value) -> bool
         ensures { result ≡ less (meaning_of self.entry) (meaning_of other.entry) }
     {

@@ -27,6 +27,7 @@ pub enum Direction {
 }
 
 // The order of keys, each with what follows it: that of their bytes, which is that of their values.
+// kept: (d) a name for `<`: callers have its contract, which says what comparing the bytes says of the values
 pub fn less(a: &[u8], b: &[u8]) -> bool
     ensures bytes { result ≡ less_bytes a.now b.now }
     ensures keys { OrdersKeys a.now b.now result }
@@ -89,6 +90,7 @@ fn put_escaped(text: &[u8], out: &mut [u8], at: usize) -> usize
     ensures bytes { out.new ≡ put out.old at (escaped text.now) }
 {
     let mut end = at;
+    // kept: (d) a place counted by hand: a byte of the text takes one byte of the key, or two
     for &byte in text {
         out[end] = byte;
         end += 1;

@@ -126,7 +126,7 @@ pub fn columns(bytes: &[u8]) -> Option<usize>
 {
     let mut values = Values { rest: bytes };
     let mut count = 0;
-    // kept: a count by hand, by (c): after `by_ref().count()` a proof doesn't know where the values ended
+    // kept: (c) a count by hand: after `by_ref().count()` a proof doesn't know where the values ended
     while values.next().is_some() {
         count += 1;
     }

@@ -90,7 +90,7 @@ impl Joiner {
     fn push_all(&mut self, node: Node) -> Result<(), Full>
         ensures { Whole node.entry.page.now → AllPushed self.old (entries_in node.entry.page.now) result self.new }
     {
-        // kept: numbers, by (d): a page's entries are found by number, and lie in no slice
+        // kept: (d) numbers: a page's entries are found by number, and an iterator of them would count the same
         for i in 0..node.count() {
             self.push_on(node.entry(i))?;
         }
