@@ -1,4 +1,5 @@
 // Answers as text: `no 3`, `done 2`, `full`, `begun`, `end`; a row has its values between bars.
+// kept: (d) functions and no Display: a text is any bytes, and what is displayed has to be UTF-8
 ghost use Rattle.std.specs.Prelude.{◌≡◌, [], ◌∷◌, ◌++◌, OnOk};
 ghost use Rattle.std.specs.Fmt.{signed_decimal};
 ghost use Rattle.console.specs.Text.{twice, doubled, quoted, cell_text, reply_text};

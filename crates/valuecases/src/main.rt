@@ -36,13 +36,13 @@ const TRUTHS: [Truth; 3] = [Truth::Holds, Truth::Fails, Truth::Unknown];
 
 // The bytes of a column, written to the front of `out`.
 fn key_of<'a>(value: Value, direction: Direction, out: &'a mut [u8; 64]) -> &'a [u8] {
-    let end = write_column(value, direction, out, 0).unwrap_or(0);
-    out.get(..end).unwrap_or(b"")
+    let end = write_column(value, direction, out, 0);
+    end.and_then(|end| out.get(..end)).unwrap_or(b"")
 }
 
 fn row_of<'a>(value: Value, out: &'a mut [u8; 64]) -> &'a [u8] {
-    let end = write_value(value, out, 0).unwrap_or(0);
-    out.get(..end).unwrap_or(b"")
+    let end = write_value(value, out, 0);
+    end.and_then(|end| out.get(..end)).unwrap_or(b"")
 }
 
 // A sample as a row of one column and as a key, and what is read of both.
