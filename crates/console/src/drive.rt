@@ -49,7 +49,7 @@ pub fn answer<D: Disk>(
 ) -> Result<Reply, Stop> {
     row.clear();
     let mut given = [0; 512];
-    // kept: (c) a count that is not reached: a loop has to end, and that a call ends is proved of runs, by no number that falls
+    // kept: (d) a count that is not reached: that a call ends is proved of whole runs, and not by a number that a loop could count down
     for _ in 0..u64::MAX {
         match engine.step(&given) {
             Ask::Read(sector) => disk.read(sector, &mut given)?,

@@ -24,7 +24,7 @@ fn take_part(part: &[u8], line: &mut Vec<u8>) -> io::Result<(usize, bool)> {
 pub fn read_line<R: BufRead>(input: &mut R, line: &mut Vec<u8>) -> io::Result<bool> {
     line.clear();
     let mut any = false;
-    // kept: (c) a count that is not reached: a loop has to end, and what is left of the input is no number that falls
+    // kept: (d) a count that is not reached: the form that the toolchain has for a loop on input, whose end is in no number that falls
     for _ in 0..u64::MAX {
         let part = input.fill_buf()?;
         if part.is_empty() {
@@ -48,7 +48,7 @@ pub fn for_each_line<R: BufRead, F: FnMut(&[u8]) -> Result<(), Stop>>(
 ) -> Result<(), Stop>
     requires { F.IsAlwaysCallable answer }
 {
-    // kept: (c) a count that is not reached: a loop has to end, and what is left of the input is no number that falls
+    // kept: (d) a count that is not reached: the form that the toolchain has for a loop on input, whose end is in no number that falls
     for _ in 0..u64::MAX {
         if !read_line(input, line)? {
             return Ok(());

@@ -46,7 +46,7 @@ impl Console {
 
     // The rows of the query that runs, up to its end.
     fn rows(&mut self, rt: &HostRuntime) -> Result<(), Stop> {
-        // kept: (c) a count that is not reached: a loop has to end, and the rows of a query are no number that falls
+        // kept: (d) a count that is not reached: the form that the toolchain has for a loop on input, whose end is in no number that falls
         for _ in 0..u64::MAX {
             self.engine.next();
             let reply = self.hear()?;
