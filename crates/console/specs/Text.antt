@@ -1,7 +1,6 @@
 -- The text of values and answers.
 use Rattle.std.specs.Prelude.{ℕ, cond, List, [], ◌∷◌, ◌++◌, codes, decimal, ◌==◌}
 use Rattle.std.specs.Fmt.{signed_decimal}
-use Rattle.session.specs.Refusal.{number_of}
 use Rattle.session.specs.declared.Value.{Value}
 use Rattle.session.specs.declared.Value.TheVariants.{Null, Number, Text}
 use Rattle.session.specs.declared.Reply.{Reply}
@@ -32,7 +31,7 @@ cell_text v text = value_text v text ++ (124 ∷ [])
 
 -- the line that answers a call; 10 is the line feed
 abbrev pub reply_text : Reply → List ℕ → List ℕ
-reply_text (No k) row = codes "no " ++ (decimal (number_of k) ++ (10 ∷ []))
+reply_text (No k) row = codes "no " ++ (decimal k ++ (10 ∷ []))
 reply_text (Done n) row = codes "done " ++ (decimal n ++ (10 ∷ []))
 reply_text Begun row = codes "begun" ++ (10 ∷ [])
 reply_text Row row = (124 ∷ []) ++ (row ++ (10 ∷ []))

@@ -73,8 +73,7 @@ pub fn push_reply(out: &mut Vec<u8>, reply: Reply, row: &[u8]) -> Result<(), All
     ensures { OnOk result (out.new.items ≡ out.old.items ++ reply_text reply row.now) }
 {
     match reply {
-        Reply::No(refusal) => {
-            let number = u8::from(refusal);
+        Reply::No(number) => {
             let line = format!(in *out.allocator(); "no {number}\n")?;
             out.extend_from_slice(line.as_bytes())
         }

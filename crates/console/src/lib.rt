@@ -8,3 +8,6 @@ pub mod drive;
 pub mod lines;
 
 pub use drive::{Disk, Stop};
+
+// Bytes of a sector.
+pub const SECTOR: u64 = 512;

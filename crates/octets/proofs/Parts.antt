@@ -1,9 +1,9 @@
 -- The laws of parts and of writes to them.
-use Rattle.std.proofs.Common.{◌≡◌, ℕ, zero, suc, ◌+◌, ◌-◌, ◌<◌, ◌≤◌, ◌⊎◌, List, [], ◌∷◌, ◌++◌, length, get_or, take, drop, set, replicate, sym, refl, ap, ◌∙◌, inl, inr, append_assoc, arith, rules}
+use Rattle.std.proofs.Common.{◌≡◌, ℕ, zero, suc, ◌+◌, ◌-◌, ◌*◌, ◌/◌, ◌%◌, ◌<◌, ◌≤◌, min, true, false, ◌&&◌, ◌⊎◌, List, [], ◌∷◌, ◌++◌, length, get_or, take, drop, set, replicate, sym, refl, ap, ◌∙◌, inl, inr, append_assoc, arith, rules}
 use borrow.Rule.Slice.PartMut.{put_mid}
-use Rattle.std.proofs.lemmas.List.{drop-drop, drop-set-lt, take_more_set, length-set, same_lists, places, get_or_default}
-use Rattle.std.proofs.lemmas.Bool.{cond-true, cond-false, cases_lt, le-leb, lt-leb}
-use Rattle.octets.specs.Parts.{part, put, put_in}
+use Rattle.std.proofs.lemmas.List.{drop-drop, drop_more, drop_all, drop-set-lt, take_more_set, length-set, same_lists, places, get_or_default, get_or_past}
+use Rattle.std.proofs.lemmas.Bool.{cond-true, cond-false, cases_lt, le-leb, lt-leb, eq-eqb, ne_eqb}
+use Rattle.octets.specs.Parts.{part, put, put_in, blank}
 
 -- a write to `s[a..a + k]`
 pub put_is : (a k : ℕ) (xs ys zs : List ℕ) → ys ≡ zs → k ≡ length zs → put_mid a k xs ys ≡ put xs a zs
@@ -45,10 +45,14 @@ pub part-put : (xs ys : List ℕ) (a n : ℕ) → n ≡ length ys → a + n ≤ 
 unfolding put
 part-put xs ys a n e h = same_lists _ _ (search (rules, places)) (λ k d l. grind (arith, places))
 
--- what lies before a write stays
+-- what lies before a write stays, and what lies behind it
 pub part-before : (xs ys : List ℕ) (a b n : ℕ) → b + n ≤ a → a + length ys ≤ length xs → part (put xs a ys) b n ≡ part xs b n
 unfolding put
 part-before xs ys a b n e h = same_lists _ _ (search (rules, places)) (λ k d l. grind (arith, places))
+
+pub part-behind : (xs ys : List ℕ) (a b n : ℕ) → a + length ys ≤ b → a + length ys ≤ length xs → part (put xs a ys) b n ≡ part xs b n
+unfolding put
+part-behind xs ys a b n e h = same_lists _ _ (search (rules, places)) (λ k d l. grind (arith, places))
 
 -- a byte outside a write stays, and one inside is the one written
 pub get_or-before : (xs ys : List ℕ) (a i : ℕ) → i < a → a + length ys ≤ length xs → get_or (put xs a ys) i 0 ≡ get_or xs i 0
@@ -65,6 +69,16 @@ get_or-inside xs ys a i h l = grind (arith, places)
 
 pub length_part : (xs : List ℕ) (a n : ℕ) → a + n ≤ length xs → length (part xs a n) ≡ n
 length_part xs a n h = search (rules, places)
+
+-- `&s[at..]` has all from there on: past the end nothing, else no more than there is
+pub part-past : (xs : List ℕ) (at n : ℕ) → length xs ≤ at → [] ≡ part xs at n
+part-past xs at n h = same_lists _ _ (search (rules, places)) (λ k d l. grind (arith, places))
+
+pub part-rest : (xs : List ℕ) (at n m : ℕ) → length xs ≤ at + m → length xs ≤ at + n → take m (drop at xs) ≡ part xs at n
+part-rest xs at n m h p = same_lists _ _ (search (rules, places)) (λ k d l. grind (arith, places))
+
+pub part-front : (xs : List ℕ) (at n m : ℕ) → n ≤ m → take n (take m (drop at xs)) ≡ part xs at n
+part-front xs at n m h = same_lists _ _ (search (rules, places)) (λ k d l. grind (arith, places))
 
 -- a byte of a part
 pub at_part : (xs : List ℕ) (a n k : ℕ) → k < n → get_or (part xs a n) k 0 ≡ get_or xs (a + k) 0
@@ -90,6 +104,14 @@ replicate-at a zero k = refl
 replicate-at a (suc n) zero = refl
 replicate-at a (suc n) (suc k) = replicate-at a n k
 
+-- past the end there is nothing, so that a byte behind another may be looked for at any place
+pub get_or-next : (xs : List ℕ) (at next : ℕ) → length xs < 18446744073709551616 → next ≡ min (at + 1) 18446744073709551615 → get_or xs next 0 ≡ get_or xs (at + 1) 0
+get_or-next xs at next l e = go (cases_lt at 18446744073709551615)
+  where
+    go : (at < 18446744073709551615) ⊎ (18446744073709551615 ≤ at) → get_or xs next 0 ≡ get_or xs (at + 1) 0
+    go (inl h) = let n : next ≡ at + 1 = omega arith in ap (λ k. get_or xs k 0) n
+    go (inr h) = get_or_past xs next 0 (omega arith) ∙ sym (get_or_past xs (at + 1) 0 (omega arith))
+
 -- a byte written, and then what goes behind it
 pub put-cons : (xs ys : List ℕ) (a b y : ℕ) → b ≡ a + 1 → a < length xs → put (set xs a y) b ys ≡ put xs a (y ∷ ys)
 unfolding put
@@ -113,6 +135,10 @@ put-over xs ys zs a e h = same_lists _ _ (search (rules, places)) (λ k d l. gri
 pub put_two : (xs ys : List ℕ) (a b c x y : ℕ) → b ≡ a + 1 → c ≡ b + 1 → b < length xs → put (set (set xs a x) b y) c ys ≡ put xs a (x ∷ y ∷ ys)
 put_two xs ys a b c x y e f h = put-cons (set xs a x) ys b c y f (rw length-set h) ∙ put-cons xs (y ∷ ys) a b x e (omega arith)
 
+-- a part, by its first byte and the rest
+pub part-more : (xs : List ℕ) (k to : ℕ) → k < to → to ≤ length xs → part xs k (to - k) ≡ get_or xs k 0 ∷ part xs (k + 1) (to - (k + 1))
+part-more xs k to h l = let n : to - k ≡ suc (to - (k + 1)) = omega arith in rw (n, drop_more xs k 0 (omega arith)) refl
+
 -- two copies to the front, one right behind the other, and the part that they fill
 pub two-copies : (a b x y out : List ℕ) → x ≡ a → y ≡ b → length a + length b ≤ length out → take (length a + length b - 0) (drop 0 (put_mid (length a) (length a + length b - length a) (x ++ drop (length a - 0) out) y)) ≡ a ++ b
 two-copies a b x y out e f h = same_lists _ _ (search (rules, places)) (λ k d l. grind (arith, places))
@@ -121,3 +147,31 @@ two-copies a b x y out e f h = same_lists _ _ (search (rules, places)) (λ k d l
 pub take_put : (xs ys : List ℕ) (a : ℕ) → a + length ys ≤ length xs → take (a + length ys) (put xs a ys) ≡ take a xs ++ ys
 unfolding put
 take_put xs ys a h = same_lists _ _ (search (rules, places)) (λ k d l. grind (arith, places))
+
+-- whether what is left is blank
+blank-first : (x : ℕ) (l : List ℕ) → x ≡ 0 → blank (x ∷ l) ≡ blank l
+blank-first x l e = ap (λ t. t && blank l) (eq-eqb x 0 e)
+
+blank-first-not : (x : ℕ) (l : List ℕ) → (x ≡ 0 → ⊥) → blank (x ∷ l) ≡ false
+blank-first-not x l e = ap (λ t. t && blank l) (ne_eqb x 0 e)
+
+blank-nil : blank [] ≡ true
+blank-nil = refl
+
+pub blank-more : (l : List ℕ) (i : ℕ) → i < length l → get_or l i 0 ≡ 0 → blank (drop (i + 1) l) ≡ blank (drop i l)
+blank-more l i h e = sym (ap blank (drop_more l i 0 h) ∙ blank-first (get_or l i 0) (drop (i + 1) l) e)
+
+pub blank-not : (l : List ℕ) (i : ℕ) → i < length l → (get_or l i 0 ≡ 0 → ⊥) → blank (drop i l) ≡ false
+blank-not l i h e = ap blank (drop_more l i 0 h) ∙ blank-first-not (get_or l i 0) (drop (i + 1) l) e
+
+pub blank-end : (l : List ℕ) (i : ℕ) → length l ≤ i → blank (drop i l) ≡ true
+blank-end l i h = ap blank (drop_all i l h) ∙ blank-nil
+
+-- two bytes are their number, and back
+pub pair-of : (n : ℕ) → n / 256 * 256 + n % 256 ≡ n
+pair-of n = omega arith
+
+pub zeros-at : (n k : ℕ) → ◌≡◌ {A = ℕ} (get_or (replicate n 0) k 0) 0
+zeros-at zero k = refl
+zeros-at (suc n) zero = refl
+zeros-at (suc n) (suc k) = zeros-at n k

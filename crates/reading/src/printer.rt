@@ -1,6 +1,7 @@
 // A read statement printed: keywords small, one blank between words, every compound expression in brackets.
 //
 // The number left falls with each call, so that it ends on any nodes; a read statement nests less deep than it has nodes.
+use itoa::Buffer;
 use std::alloc::AllocError;
 use text::{Fold, Node, Nodes, Op, Question, Span, Statement, Table, bytes_of};
 
@@ -49,8 +50,8 @@ impl<'o, 'a> Printer<'o, 'a> {
     }
 
     fn number(&mut self, n: u64) -> Result<(), AllocError> {
-        let digits = format!(in *self.out.allocator(); "{n}")?;
-        self.say(digits.as_bytes())
+        let mut digits = Buffer::new();
+        self.say(digits.format(n).as_bytes())
     }
 
     fn quoted(&mut self, span: Span) -> Result<(), AllocError> {

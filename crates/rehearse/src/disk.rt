@@ -50,7 +50,9 @@ impl CutDisk {
                 served = Err(Stop::Cut);
             }
         }
-        self.planned.retain(|plan| plan.asks > 0);
+        if served.is_err() {
+            self.planned.retain(|plan| plan.asks > 0);
+        }
         served
     }
 }

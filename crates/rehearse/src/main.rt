@@ -129,12 +129,17 @@ fn run(rt: &HostRuntime) -> Result<(), Stop> {
     let heap = rt.alloc();
     let mut input = BufReader::new(heap, rt.stdin())?;
     let mut line = Vec::new(heap);
-    let any = read_line(&mut input, &mut line)?;
+    let mut more = read_line(&mut input, &mut line)?;
     let size = size_of(line.as_slice());
-    let mut rehearsal = Rehearsal::begin(heap, size.unwrap_or(SECTORS))?;
-    if any && size.is_none() {
-        rehearsal.answer(rt, line.as_slice())?;
+    if size.is_some() {
+        more = read_line(&mut input, &mut line)?;
     }
+    let mut rehearsal = Rehearsal::begin(heap, size.unwrap_or(SECTORS))?;
+    // a terminal would be asked again after its end
+    if !more {
+        return Ok(());
+    }
+    rehearsal.answer(rt, line.as_slice())?;
     for_each_line(&mut input, &mut line, |text| rehearsal.answer(rt, text))
 }
 

@@ -21,9 +21,6 @@ use Rattle.session.specs.Layer.{HeardAs, SaidAs, TakenAs, Is, StartsAt, HearsAt,
 use Rattle.session.specs.Promise.{refuses, Answered, tables, built, EngineWhole}
 use Rattle.text.specs.declared.parts.Refusal as text
 use Rattle.text.specs.declared.parts.Refusal.TheVariants.{TooLong, Unread}
-use Rattle.session.specs.Refusal.{told}
-use Rattle.session.specs.declared.refusal.Refusal.{Refusal}
-use Rattle.session.specs.declared.refusal.Refusal.TheVariants.{NotBuilt, NoQuery}
 use Rattle.session.specs.declared.statement.Doing.{Doing}
 use Rattle.session.specs.declared.statement.Doing.TheVariants.{Rising, Loading, Resting, Said, Asked}
 use Rattle.session.specs.declared.statement.Session.{Session}
@@ -85,7 +82,7 @@ module _ (size : ℕ) where
   abbrev Leads : With Call → List (With Value) → Next PageCall Value Reply → Session → Pages → Connection → Type 0
   Leads c us x b s t = Led (pages_judge size) (tables built size) session_layer Inv c us x b s t
 
-  abbrev Answer : With Call → Connection → Refusal → Connection → Type 0
+  abbrev Answer : With Call → Connection → ℕ → Connection → Type 0
   Answer c t k u = Answered built size c t [] (and (No k) []) u
 
   raised_at : (a b : Session) (x : Next PageCall Value Reply) (s : Pages) (t : Connection) → a.doing ≡ Rising → Still t → StartsAt a.doing x b.doing → Inv (up session_layer x b s) t
@@ -95,26 +92,26 @@ module _ (size : ℕ) where
   heard-at b x s t h q = rw q.0 h
 
   -- a refusal that leads to a state in which no query runs
-  refused : (c : With Call) (us : List (With Value)) (x : Next PageCall Value Reply) (b : Session) (s : Pages) (t u : Connection) (k : Refusal) → us ≡ [] → x ≡ Give (No k) → Still u → Answer c t k u → Leads c us x b s t
+  refused : (c : With Call) (us : List (With Value)) (x : Next PageCall Value Reply) (b : Session) (s : Pages) (t u : Connection) (k : ℕ) → us ≡ [] → x ≡ Give (No k) → Still u → Answer c t k u → Leads c us x b s t
   refused c us x b s t u k e q h w = rw (q, e) (u, w, h)
 
   -- with no query running, a row asked for is refused by 13
-  next-still : (c : With Call) (r : Running) (t : Connection) → r ≡ Idle → c.it ≡ NextRow → t.running ≡ r → Answer c t NoQuery (idle t)
+  next-still : (c : With Call) (r : Running) (t : Connection) → r ≡ Idle → c.it ≡ NextRow → t.running ≡ r → Answer c t 13 (idle t)
   unfolding next
   next-still c r t e q h =
       record {
         reply = Refuses 13;
-        says = refuses NoQuery;
+        says = refuses 13;
         allowed = rw q (subst (λ v. Answers built size WantsRow t (next v t).reply (next v t).conn) (h ∙ e) (nexts t));
       }
 
   -- a text is refused by what it was read as
   said_at : (c : With Call) (us : List (With Value)) (x : Next PageCall Value Reply) (b : Session) (s : Pages) (t : Connection) (h : Result (Unit {0}) text.Refusal) → c.it ≡ Say → us ≡ [] → HeardAs c.bytes h → StartsAt (Said h) x b.doing → Leads c us x b s t
-  said_at c us x b s t (Err TooLong) e n h q = refused c us x b s t (idle t) (told TooLong) n q.0 refl (record { reply = Refuses 10; says = refuses (told TooLong); allowed = rw e (too_long c.bytes t h) })
+  said_at c us x b s t (Err TooLong) e n h q = refused c us x b s t (idle t) 10 n q.0 refl (record { reply = Refuses 10; says = refuses 10; allowed = rw e (too_long c.bytes t h) })
   said_at c us x b s t (Err Unread) e n h q =
-      refused c us x b s t (idle t) (told Unread) n q.0 refl (record { reply = Refuses 1; says = refuses (told Unread); allowed = rw e (reads_not c.bytes t h.0 (λ st r. absurd (h.1 st r))) })
+      refused c us x b s t (idle t) 1 n q.0 refl (record { reply = Refuses 1; says = refuses 1; allowed = rw e (reads_not c.bytes t h.0 (λ st r. absurd (h.1 st r))) })
   said_at c us x b s t (Ok u) e n h q =
-      refused c us x b s t (idle t) NotBuilt n q.0 refl (record { reply = Refuses 12; says = refuses NotBuilt; allowed = rw e (reads c.bytes h.1.0 t h.0 h.1.1) })
+      refused c us x b s t (idle t) 12 n q.0 refl (record { reply = Refuses 12; says = refuses 12; allowed = rw e (reads c.bytes h.1.0 t h.0 h.1.1) })
 
   said-by : (c : With Call) (us : List (With Value)) (x : Next PageCall Value Reply) (b : Session) (s : Pages) (t : Connection) (d : Doing) → c.it ≡ Say → us ≡ [] → SaidAs c.bytes d → StartsAt d x b.doing → Leads c us x b s t
   said-by c us x b s t (Said h) e n k q = said_at c us x b s t h e n k q
@@ -127,7 +124,7 @@ module _ (size : ℕ) where
   begins-at c Say us x a b s t e n h k q = said-by c us x b s t a.doing e n k q
   begins-at c NextRow us x a b s t e n h k q =
       let z : StartsAt Asked x b.doing = subst (λ d. StartsAt d x b.doing) k q in
-      refused c us x b s t (idle t) NoQuery n z.0 refl (next-still c Idle t refl e h)
+      refused c us x b s t (idle t) 13 n z.0 refl (next-still c Idle t refl e h)
 
   stands : StandingAbove (pages_judge size) (tables built size) session_layer size
   stands = record {

@@ -11,7 +11,7 @@ use Rattle.meaning.specs.Grammar.{Reads}
 use Rattle.text.specs.declared.parts.Refusal as text
 use Rattle.text.specs.declared.parts.Refusal.TheVariants.{TooLong, Unread}
 use Rattle.session.specs.declared.refusal.Refusal.TheVariants.{NotBuilt, NoQuery}
-use Rattle.session.specs.Refusal.{told}
+use Rattle.session.specs.Refusal.{number_of, told}
 use Rattle.session.specs.declared.statement.Doing.{Doing}
 use Rattle.session.specs.declared.statement.Doing.TheVariants.{Rising, Loading, Resting, Said, Asked}
 use Rattle.session.specs.declared.statement.Session.{Session}
@@ -49,12 +49,12 @@ Is x b y d = (x ≡ y) × (b ≡ d)
 
 abbrev pub StartsAt : Doing → Next PageCall Value Reply → Doing → Type 0
 StartsAt Rising x b = Is x b (Calls header) Loading
-StartsAt (Said (Err e)) x b = Is x b (Give (No (told e))) Resting
-StartsAt (Said (Ok u)) x b = Is x b (Give (No NotBuilt)) Resting
-StartsAt Asked x b = Is x b (Give (No NoQuery)) Resting
+StartsAt (Said (Err e)) x b = Is x b (Give (No (number_of (told e)))) Resting
+StartsAt (Said (Ok u)) x b = Is x b (Give (No (number_of NotBuilt))) Resting
+StartsAt Asked x b = Is x b (Give (No (number_of NoQuery))) Resting
 -- these do not come about
-StartsAt Loading x b = Is x b (Give (No NoQuery)) Resting
-StartsAt Resting x b = Is x b (Give (No NoQuery)) Resting
+StartsAt Loading x b = Is x b (Give (No (number_of NoQuery))) Resting
+StartsAt Resting x b = Is x b (Give (No (number_of NoQuery))) Resting
 
 -- the header was read
 abbrev pub HearsAt : Next PageCall Value Reply → Doing → Type 0

@@ -10,8 +10,6 @@ use Rattle.meaning.specs.Meaning.{blank}
 use Rattle.meaning.specs.Session.{Call as Spoken, Say as SaysText, Next as WantsRow, Reply as Told, No as Refuses, Done as HasDone, Begun as Begins, Gives, End as Ends, Full as IsFull, Connection, fresh, Answers}
 use Rattle.pages.specs.Model.{pages_engine}
 use Rattle.session.specs.Layer.{session_layer}
-use Rattle.session.specs.Refusal.{number_of}
-use Rattle.session.specs.declared.refusal.Refusal.{Refusal}
 use Rattle.session.specs.declared.Call.{Call}
 use Rattle.session.specs.declared.Call.TheVariants.{Say, Next}
 use Rattle.session.specs.declared.Value.{Value}
@@ -38,7 +36,7 @@ row_of vs = reverse (map (λ (v : With Value). value_of v.it v.bytes) vs)
 
 -- what a reply says; only a row has values, the latest first
 pub data Says : List (With Value) → Reply → Told → Type 0 where
-  refuses : (k : Refusal) → Says [] (No k) (Refuses (number_of k))
+  refuses : (k : ℕ) → Says [] (No k) (Refuses k)
   has_done : (n : ℕ) → Says [] (Done n) (HasDone n)
   begins : Says [] Begun Begins
   gives : (vs : List (With Value)) → Says vs Row (Gives (row_of vs))

@@ -50,8 +50,9 @@ pub enum Value {
 // kept: (d) refusals are variants and no Err: each is an answer that is printed, and nothing goes on after one with `?`
 #[derive(Clone, Copy, Debug, PartialEq, Eq)]
 pub enum Reply {
-    // refused; nothing has changed
-    No(Refusal),
+    // refused, by number; nothing has changed
+    // kept: (d) the number and no Refusal: it is what a reply says, and a reply may say any; what the engine says is one of a Refusal
+    No(u8),
     // done, and so many rows were inserted, changed or deleted
     Done(u64),
     // a query runs: `next` gives its rows

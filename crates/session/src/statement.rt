@@ -60,7 +60,7 @@ fn started(doing: Doing) -> (Next<PageCall, Value, Reply>, Doing)
         Doing::Said(Err(unread)) => Refusal::from(unread),
         Doing::Asked | Doing::Loading | Doing::Resting => Refusal::NoQuery,
     };
-    (Next::Give(Reply::No(refusal)), Doing::Resting)
+    (Next::Give(Reply::No(refusal.into())), Doing::Resting)
 }
 
 // What comes after an answer of the store below: the header page was read, and the session is up.

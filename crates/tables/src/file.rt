@@ -1,6 +1,6 @@
 // A file as the disk: it is read a page ahead, and writes to neighbouring sectors are gathered up to the next sync, no
 // further. Before anything is read all of it is made lasting, since an earlier run may have been killed before its sync.
-use console::{Disk, Stop};
+use console::{Disk, SECTOR, Stop};
 use std::fs::{File, OpenFile, OpenOptions};
 use std::io;
 use std::io::{Read, Seek, SeekFrom, Write};
@@ -45,7 +45,7 @@ impl FileDisk {
 
     // How many sectors it has, if it has no part of one.
     pub fn sectors(&self) -> Option<u64> {
-        (self.len % 512 == 0).then_some(self.len / 512)
+        (self.len % SECTOR == 0).then_some(self.len / SECTOR)
     }
 
     // Writes what was gathered.
@@ -54,7 +54,7 @@ impl FileDisk {
             return Ok(());
         }
         self.file
-            .seek(SeekFrom::Start(self.gathered_at.saturating_mul(512)))?;
+            .seek(SeekFrom::Start(self.gathered_at.saturating_mul(SECTOR)))?;
         self.file.write_all(self.gathered.as_slice())?;
         self.gathered.clear();
         Ok(())
@@ -63,8 +63,9 @@ impl FileDisk {
     // Reads the page of a sector, or as much of it as the device has.
     fn load(&mut self, first: u64) -> io::Result<()> {
         self.page_at = None;
-        let count = (self.len / 512).saturating_sub(first).min(AHEAD);
-        self.file.seek(SeekFrom::Start(first.saturating_mul(512)))?;
+        let count = (self.len / SECTOR).saturating_sub(first).min(AHEAD);
+        self.file
+            .seek(SeekFrom::Start(first.saturating_mul(SECTOR)))?;
         read_some(&mut self.file, &mut self.page, count)?;
         self.page_at = Some(first);
         Ok(())
@@ -76,7 +77,7 @@ impl FileDisk {
         if len == 0 || len >= GATHERED {
             return false;
         }
-        self.gathered_at.checked_add((len / 512) as u64) == Some(sector)
+        self.gathered_at.checked_add(len as u64 / SECTOR) == Some(sector)
     }
 }
 

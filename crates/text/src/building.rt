@@ -21,7 +21,7 @@ impl Nodes {
         ensures { Pushed self.old self.new node result }
     {
         let at = self.nodes.len() as u16;
-        let _ = self.nodes.push(node);
+        self.nodes.push_reserved(node);
         at
     }
 

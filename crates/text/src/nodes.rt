@@ -1,5 +1,5 @@
 // The nodes of a read statement.
-ghost use Rattle.std.specs.Prelude.{◌≡◌, ◌≤◌, vec_capacity};
+ghost use Rattle.std.specs.Prelude.{◌≡◌, vec_capacity};
 
 use std::alloc::{AllocError, Global};
 
@@ -135,11 +135,11 @@ pub enum Statement {
     Release(Span),
 }
 
-// Room for the nodes of every statement: two for each of 4,096 bytes, and a few.
+// Room for the nodes of every statement, taken once: two for each of 4,096 bytes, and a few.
 #[derive(Drop)]
 pub struct Nodes {
     pub(crate) nodes: Vec<Node>,
-    ghost room: { 8200 ≤ vec_capacity nodes },
+    ghost room: { vec_capacity nodes ≡ 8200 },
 }
 
 impl Nodes {
