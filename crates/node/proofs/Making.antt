@@ -1,8 +1,14 @@
 -- A page of a joiner put in the place of another.
 use Rattle.std.proofs.Common.{Result, Ok, Err, is_ok, ◌≡◌, ℕ, zero, suc, ◌+◌, ◌-◌, ◌<◌, ◌≤◌, Bool, true, false, cond, ltb, leb, ◌≢◌, ◌⊎◌, List, [], ◌∷◌, ◌++◌, length, get_or, set, sym, refl, ap, ◌∙◌, subst, inl, inr, append_assoc, append-nil, add-one, arith, get_or-set_other, get_or-set_same}
+use Rattle.std.specs.Prelude.{Vec}
 use Rattle.std.specs.Bool.{⊤}
+use Rattle.std.specs.Coded.{×_prop, le_prop}
+use Rattle.std.specs.declared.alloc.Global.{Global}
+use Rattle.std.specs.Vec.{with_item}
+use mathlib.Core.HLevel.{is_prop→PathP}
+use native.Mathlib.Nat.{ℕ_set}
 use Rattle.std.proofs.lemmas.Bool.{cases_lt, lt-ltb, le-ltb, le-leb, lt-leb}
-use Rattle.std.proofs.lemmas.List.{length_push}
+use Rattle.std.proofs.lemmas.List.{length_push, set-get_or}
 use Rattle.tree.specs.Entries.{Entry}
 use Rattle.tree.specs.Pages.{Page, weigh}
 use Rattle.tree.specs.Bytes.{taken}
@@ -11,7 +17,7 @@ use Rattle.node.proofs.Places.{start-least}
 use Rattle.node.proofs.Weights.{weighs}
 use Rattle.node.specs.Node.{count_in, entry_at, entries_to, entries_from, entries_in, Formed, Cleared, Pushed}
 use Rattle.node.specs.declared.Full.{Full}
-use Rattle.node.specs.Joiner.{Made, JoinedBy, pages_to, on_last, on_last_all, spare, join_on}
+use Rattle.node.specs.Joiner.{Made, Remade, JoinedBy, pages_to, on_last, on_last_all, spare, join_on}
 
 module _ (ps : List (List ℕ)) (n : ℕ) (x : List ℕ) (h : n < length ps) where
   pages-before : (m : ℕ) → m ≤ n → pages_to (set ps n x) m ≡ pages_to ps m
@@ -33,6 +39,18 @@ module _ (ps : List (List ℕ)) (n : ℕ) (x : List ℕ) (h : n < length ps) whe
       go : (i < n) ⊎ (n ≤ i) → Formed (get_or (set ps n x) i []) (count_in (get_or (set ps n x) i []))
       go (inl p) = let ne : i ≢ n = (λ e. omega arith) in subst (λ q. Formed q (count_in q)) (sym (get_or-set_other ps n i x [] ne)) (f i p)
       go (inr p) = let e : n ≡ i = omega arith in subst (λ j. Formed (get_or (set ps n x) j []) (count_in (get_or (set ps n x) j []))) e (subst (λ q. Formed q (count_in q)) (sym (get_or-set_same ps n x [] h)) g)
+
+-- what is written over a part of the memory that it equals leaves all of it as it was
+pub put-back : (v : Vec (List ℕ) Global) (i : ℕ) (x : List ℕ) → set v.items i x ≡ v.items → with_item v i x ≡ v
+put-back v i x e = λ k. record {
+  ptr = v.ptr;
+  len = v.len;
+  cap = v.cap;
+  alloc = v.alloc;
+  items = e k;
+  ok = is_prop→PathP (λ j. (v.len ≡ length (e j)) × (v.len ≤ v.cap)) (λ j. ×_prop (ℕ_set _ _) le_prop) (with_item v i x).ok v.ok k;
+  small = v.small;
+}
 
 pub length-pages : (ps : List (List ℕ)) (n : ℕ) → length (pages_to ps n) ≡ n
 unfolding pages_to
@@ -88,6 +106,11 @@ module _ (ps : List (List ℕ)) (len : ℕ) (key value page next : List ℕ) (so
   pub spare-page : spare (pages_to ps len) ≡ 4088 - weigh taken (entries_in page)
   spare-page = ap spare pages-last ∙ spare-last (pages_to ps (len - 1)) (entries_in page)
 
+  -- a page that was put back as it was changes none
+  stays : (r : Result ⊤ Full) → Pushed page key value r next → is_ok r ≡ false → set ps (len - 1) next ≡ ps
+  stays (Ok u) p e = cc
+  stays (Err f) (w, q) e = ap (set ps (len - 1)) (q ∙ is) ∙ set-get_or ps (len - 1) []
+
   crowded : (r : Result ⊤ Full) → Pushed page key value r next → is_ok r ≡ false → spare (pages_to ps len) < 4 + (length key + length value)
   crowded (Ok u) p e = cc
   crowded (Err f) (w, q) e = omega (arith, spare-page, weighs page formed-page, w)
@@ -96,10 +119,11 @@ module _ (ps : List (List ℕ)) (len : ℕ) (key value page next : List ℕ) (so
   pub record PushedOn (r : Result ⊤ Full) : Type 0 where
     pub formed : (i : ℕ) → i < len → Formed (get_or (set ps (len - 1) next) i []) (count_in (get_or (set ps (len - 1) next) i []))
     pub pages : pages_to (set ps (len - 1) next) len ≡ cond (is_ok r) (on_last (record { key = key; value = value }) (pages_to ps len)) (pages_to ps len)
+    pub stays : is_ok r ≡ false → set ps (len - 1) next ≡ ps
     pub crowd : is_ok r ≡ false → spare (pages_to ps len) < 4 + (length key + length value)
 
   pub pushed-on : (r : Result ⊤ Full) → Pushed page key value r next → PushedOn r
-  pushed-on r p = record { formed = formed-pushed r p; pages = pages-pushed r p; crowd = crowded r p }
+  pushed-on r p = record { formed = formed-pushed r p; pages = pages-pushed r p; stays = stays r p; crowd = crowded r p }
 
 -- JOINING A UNIT
 -- a page of its own where the last has no room, and then its entry: that is the unit joined
@@ -156,7 +180,7 @@ module _ (ps qs rs : List Page) (e : Entry) (r : Bool) (small : taken e ≤ 4088
   pub joined_by : rs ≡ join_on taken 4088 (e ∷ []) ps
   joined_by = pushed ∙ ap (λ t. cond t (on_last e qs) qs) was-pushed ∙ ap (on_last e) reserved ∙ joined-one e ps
 
-pub joined-ok : (m : Made) (q : Page) (r : Result ⊤ Full) (k : Made) → is_ok r ≡ true → k ≡ record { level = m.level; pages = join_on taken 4088 q m.pages } → JoinedBy m q r k
+pub joined-ok : (m : Made) (q : Page) (r : Result ⊤ Full) (k : Made) → is_ok r ≡ true → Remade m (join_on taken 4088 q m.pages) k → JoinedBy m q r k
 joined-ok m q (Ok u) k t e = e
 joined-ok m q (Err f) k t e = cc
 

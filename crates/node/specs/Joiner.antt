@@ -1,5 +1,6 @@
 -- Pages of a level as they are made anew.
-use Rattle.std.specs.Prelude.{◌≡◌, ℕ, zero, suc, ◌+◌, ◌-◌, ◌<◌, ◌≤◌, true, false, Result, Ok, Err, ⊤, is_ok, cond, List, [], ◌∷◌, ◌++◌, length, nat_le, nat_lt, slice_index_or}
+use Rattle.std.specs.Prelude.{◌≡◌, ℕ, zero, suc, ◌+◌, ◌-◌, ◌<◌, ◌≤◌, true, false, Result, Ok, Err, ⊤, is_ok, cond, List, [], ◌∷◌, ◌++◌, length, nat_le, nat_lt, slice_index_or, Vec}
+use Rattle.std.specs.declared.alloc.Global.{Global}
 use Rattle.tree.specs.Entries.{Entry}
 use Rattle.tree.specs.Pages.{Page, weigh}
 use Rattle.tree.specs.Bytes.{taken}
@@ -11,10 +12,11 @@ unfoldable pub pages_to : List (List ℕ) → ℕ → List Page
 pages_to ps zero = []
 pages_to ps (suc n) = pages_to ps n ++ (entries_in (slice_index_or ps n []) ∷ [])
 
--- what is known of a joiner: its level, and its pages by their entries
+-- what is known of a joiner: its level, its pages by their entries, and the memory with the bytes of all 24, in use or not
 pub record Made : Type 0 where
   pub level : ℕ
   pub pages : List Page
+  pub memory : Vec (List ℕ) Global
 
 -- all its memory is there, and the pages in use are formed
 pub record Kept (room : ℕ) (ps : List (List ℕ)) (len : ℕ) : Type 0 where
@@ -22,11 +24,11 @@ pub record Kept (room : ℕ) (ps : List (List ℕ)) (len : ℕ) : Type 0 where
   pub few : len ≤ 24
   pub sound : Sound ps len
 
--- other pages of the same level
+-- other pages of the same level, whatever bytes they are written with
 abbrev pub Remade : Made → List Page → Made → Type 0
-Remade m ps k = k ≡ record { level = m.level; pages = ps }
+Remade m ps k = (k.level ≡ m.level) × (k.pages ≡ ps)
 
--- there was no place for one page more, and nothing changed
+-- there was no place for one page more, and nothing changed, no byte either
 abbrev pub Stayed : Made → Made → Type 0
 Stayed m k = (length m.pages ≡ 24) × (k ≡ m)
 
@@ -58,9 +60,10 @@ spare [] = 0
 spare (p ∷ []) = 4088 - weigh taken p
 spare (p ∷ q ∷ ps) = spare (q ∷ ps)
 
--- an entry behind the last page's, where that has room for it
+-- an entry behind the last page's, where that has room for it; else nothing changed, no byte either
 pub record PushedBy (m : Made) (e : Entry) (r : Result ⊤ Full) (k : Made) : Type 0 where
   pub pages : Remade m (cond (is_ok r) (on_last e m.pages) m.pages) k
+  pub stayed : is_ok r ≡ false → k ≡ m
   pub crowded : is_ok r ≡ false → spare m.pages < taken e
 
 -- a page with room for so many bytes is the last one, or there was no place for one

@@ -13,7 +13,8 @@ pub const MOST: usize = 24;
 // The bytes of entries that a page holds.
 pub const CAPACITY: usize = 4088;
 
-// What is known of it is its level, and the entries of each page.
+// What is known of it is its level, the entries of each page in use, and the memory that all pages lie in: where something
+// does not go in, none of it changes.
 #[derive(Drop)]
 pub struct Joiner {
     pages: Vec<[u8; 4096]>,
@@ -26,7 +27,7 @@ pub struct Joiner {
 impl Model for Joiner {
     ghost Value = { Made };
 
-    ghost view = { λ j. record { level = j.level; pages = pages_to (vec_items j.pages) j.len } };
+    ghost view = { λ j. record { level = j.level; pages = pages_to (vec_items j.pages) j.len; memory = j.pages } };
 
     ghost invariant = { λ j. Kept (vec_len j.pages) (vec_items j.pages) j.len };
 }

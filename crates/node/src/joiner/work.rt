@@ -11,7 +11,7 @@ impl Joiner {
     // All its memory is taken here.
     #[tactic(auto, unfolding(crate::specs::Joiner::pages_to))]
     pub fn new(heap: Global) -> Result<Joiner, AllocError>
-        ensures { IfOk result (λ j. j ≡ record { level = 0; pages = [] }) }
+        ensures { IfOk result (λ j. (j.level ≡ 0) × (j.pages ≡ [])) }
     {
         Ok(Joiner {
             pages: vec![in heap; [0; 4096]; MOST]?,
@@ -23,7 +23,7 @@ impl Joiner {
     // No pages, of another level.
     #[tactic(auto, unfolding(crate::specs::Joiner::pages_to))]
     pub fn begin(&mut self, level: u8)
-        ensures { self.new ≡ record { level = level; pages = [] } }
+        ensures { self.new ≡ record { level = level; pages = []; memory = self.old.memory } }
     {
         self.level = level;
         self.len = 0;

@@ -1,6 +1,6 @@
 use Rattle.std.proofs.Common.{◌≡◌, ◌+◌, cond, ltb, is_ok, [], ◌∷◌, ◌++◌, length, ap, ◌∙◌, arith}
 use Rattle.node.specs.Node.{lies}
-use Rattle.node.specs.Joiner.{Made, on_last, spare}
+use Rattle.node.specs.Joiner.{spare}
 use Rattle.node.proofs.Making.{was-pushed, joined_by, joined-ok}
 use Rattle.node.proofs.joiner.Joiner.add.Goals as goal
 
@@ -13,9 +13,7 @@ returns c = λ h.
     let k = c.push_on.new.self in
     let ok = is_ok c.push_on.result in
     let w : c.saturating_add.result ≡ 4 + (length c.args.entry.key.now + length c.args.entry.value.now) = omega (arith, c.saturating_add-len.ensures, c.saturating_add.ensures) in
-    let q = ap (λ (x : Made). x.pages) c.in_ok-reserve.ensures ∙ ap (λ y. cond (ltb (spare m.pages) y) (m.pages ++ ([] ∷ [])) m.pages) w in
-    let l : n.level ≡ m.level = ap (λ (x : Made). x.level) c.in_ok-reserve.ensures in
-    let rs : k.pages ≡ cond ok (on_last e n.pages) n.pages = ap (λ (x : Made). x.pages) p.pages in
-    let t = was-pushed m.pages n.pages k.pages e ok h q rs p.crowded in
-    let joined = joined_by m.pages n.pages k.pages e ok h q rs p.crowded in
-    joined-ok m (e ∷ []) c.push_on.result k t (λ i. record { level = (ap (λ (x : Made). x.level) p.pages ∙ l) i; pages = joined i })
+    let q = c.in_ok-reserve.ensures.1 ∙ ap (λ y. cond (ltb (spare m.pages) y) (m.pages ++ ([] ∷ [])) m.pages) w in
+    let t = was-pushed m.pages n.pages k.pages e ok h q p.pages.1 p.crowded in
+    let joined = joined_by m.pages n.pages k.pages e ok h q p.pages.1 p.crowded in
+    joined-ok m (e ∷ []) c.push_on.result k t (p.pages.0 ∙ c.in_ok-reserve.ensures.0, joined)

@@ -2,7 +2,7 @@ use Rattle.std.proofs.Common.{◌≡◌, ◌+◌, ◌-◌, ◌<◌, ◌≤◌, c
 use Rattle.tree.specs.Bytes.{taken}
 use Rattle.tree.specs.Pages.{weigh}
 use Rattle.node.specs.Node.{count_in, lies, entry_at, entries_from, entries_in}
-use Rattle.node.specs.Joiner.{Made, on_last, on_last_all, spare}
+use Rattle.node.specs.Joiner.{on_last, on_last_all, spare}
 use Rattle.node.proofs.Making.{length-on-last, spare-pushed, from-weighs, from-pushed, from-done}
 use Rattle.node.proofs.Picking.{entries_from_lem}
 use Rattle.node.proofs.joiner.Joiner.push_all.Goals as goal
@@ -13,7 +13,7 @@ loop-i-init c = λ f z w.
     let m = c.args.self.now in
     let n = count_in page in
     let all : entries_in page ≡ entries_from page 0 (n - 0) = entries_from_lem page n ∙ ap (entries_from page 0) (omega arith) in
-    (z, subst (λ es. weigh taken es ≤ spare m.pages) all w, λ i. record { level = m.level; pages = on_last_all (sym all i) m.pages })
+    (z, subst (λ es. weigh taken es ≤ spare m.pages) all w, refl, ap (λ es. on_last_all es m.pages) (sym all))
 
 pub loop-i-preserved : goal.loop-i-preserved
 loop-i-preserved c = λ f z w.
@@ -27,12 +27,11 @@ loop-i-preserved c = λ f z w.
     let rest = entries_from page (i + 1) (n - (i + 1)) in
     let p = c.push_on.ensures.pages in
     let q : k.pages ≡ on_last (entry_at page i) j.pages =
-    ap (λ (x : Made). x.pages) p ∙ ap (λ r. cond (is_ok r) (on_last (lies c.entry.result) j.pages) j.pages) c.in_ok-push_on.was ∙ ap (λ x. on_last x j.pages) (c.entry.ensures n f b) in
+    p.1 ∙ ap (λ r. cond (is_ok r) (on_last (lies c.entry.result) j.pages) j.pages) c.in_ok-push_on.was ∙ ap (λ x. on_last x j.pages) (c.entry.ensures n f b) in
     let long : length k.pages ≡ length j.pages = ap length q ∙ length-on-last (entry_at page i) j.pages in
     let room : spare k.pages ≡ spare j.pages - taken (entry_at page i) = ap spare q ∙ spare-pushed j.pages (entry_at page i) v.0 in
-    let level = ap (λ (x : Made). x.level) p ∙ ap (λ (x : Made). x.level) v.2 in
-    let pages = ap (on_last_all rest) q ∙ sym (from-pushed page i n b j.pages) ∙ ap (λ (x : Made). x.pages) v.2 in
-    (omega (arith, long, v.0), omega (arith, room, from-weighs page i n b, v.1), λ t. record { level = level t; pages = pages t })
+    let pages = ap (on_last_all rest) q ∙ sym (from-pushed page i n b j.pages) ∙ v.3 in
+    (omega (arith, long, v.0), omega (arith, room, from-weighs page i n b, v.1), p.0 ∙ v.2, pages)
 
 pub returns-in_err-push_on : goal.returns-in_err-push_on
 returns-in_err-push_on c = λ f z w.
@@ -50,4 +49,4 @@ returns c = λ f z w.
     let j = c.loop-i.self in
     let page = c.args.node.page.now in
     let done = from-done page c.loop-i.i (count_in page) j.pages (omega (arith, c.loop-i-test.false, c.count-i-end.ensures.is)) in
-    (refl, (λ i. record { level = j.level; pages = sym done i }) ∙ v.2)
+    (refl, (v.2, sym done ∙ v.3))
