@@ -1,5 +1,5 @@
 -- One write more.
-use Rattle.std.proofs.Common.{◌≡◌, ℕ, zero, suc, ◌+◌, ◌<◌, ◌≤◌, Bool, true, false, cond, eqb, ◌⊎◌, List, [], ◌∷◌, ◌++◌, length, get_or, take, replicate, ◌==◌, reverse, None, Some, Option, sym, refl, ap, ◌∙◌, subst, inl, inr, arith, eq-eqb, ne_eqb}
+use Rattle.std.proofs.Common.{◌≡◌, ℕ, zero, suc, ◌+◌, ◌<◌, ◌≤◌, Bool, true, false, cond, eqb, ◌⊎◌, List, [], ◌∷◌, ◌++◌, length, get_or, take, replicate, ◌==◌, reverse, None, Some, Option, sym, refl, ap, ◌∙◌, subst, inl, inr, arith, eq-eqb, ne_eqb, ◌-◌, set, length-set, get_or-set_other, get_or-set_same}
 use mathlib.Core.List.{Memᴰ}
 use Rattle.std.proofs.lemmas.Bool.{cases_eq, cases_lt}
 use Rattle.std.proofs.lemmas.List.{take_more, get_or_default, reverse-append}
@@ -25,6 +25,20 @@ since-more s ws i w h e = ap (since_of s) (take_more ws i w h ∙ ap (λ y. take
 pub latest-cond : (b : Bool) (old x : List ℕ) (a : List (List ℕ)) → latest old (cond b (x ∷ a) a) ≡ cond b x (latest old a)
 latest-cond true old x a = refl
 latest-cond false old x a = refl
+
+-- a write to a sector that is there is kept by one set, and one to any other changes nothing
+set_at : (xs : List (List ℕ)) (i s : ℕ) (v : List ℕ) → i < length xs → get_or (set xs i v) s [] ≡ cond (eqb s i) v (get_or xs s [])
+set_at xs i s v h =
+    elim (cases_eq s i) [
+      | inl e ↦ rw (eq-eqb s i e, e) (get_or-set_same xs i v [] h)
+      | inr n ↦ rw (ne_eqb s i n) (get_or-set_other xs i s v [] n)
+    ]
+
+pub kept_set : (xs : List (List ℕ)) (w : Written) (ys : List (List ℕ)) → ys ≡ set xs w.sector w.bytes → w.sector < length xs → Kept xs w ys
+kept_set xs w ys e h = record { long = ap length e ∙ simp length-set; items = λ s l. ap (λ y. get_or y s []) e ∙ set_at xs w.sector s w.bytes h }
+
+pub kept-none : (xs : List (List ℕ)) (w : Written) → length xs ≤ w.sector → Kept xs w xs
+kept-none xs w h = record { long = refl; items = λ s l. rw (ne_eqb s w.sector (λ e. omega arith)) refl }
 
 -- the write's own sector goes by its own name in the device
 pub since-written : (s : ℕ) (ws : List Written) (x : ℕ) (b : List ℕ) → since_of s (ws ++ (record { sector = x; bytes = b } ∷ [])) ≡ cond (eqb s x) (b ∷ since_of x ws) (since_of s ws)
@@ -92,6 +106,13 @@ pub each_all : (xs ys : List (List ℕ)) (ws : List Written) → KeptSome xs ws 
 each_all xs ys ws k s = elim (cases_lt s (length xs)) [ inl h ↦ k.items s h | inr h ↦ inl (past ys s (omega (arith, k.long, h)) ∙ sym (past xs s h)) ]
 
 -- LOOKING FOR THE LAST WRITE TO A SECTOR
+-- one to another sector is passed by
+pub passed-by : (s : ℕ) (ws : List Written) (at : ℕ) (w : Written) → 0 < at → at ≤ length ws → w ≡ get_or ws (at - 1) w → (w.sector ≡ s → ⊥) → since_of s (take at ws) ≡ since_of s ws → since_of s (take (at - 1) ws) ≡ since_of s ws
+passed-by s ws at w h l e n q =
+    let z : at - 1 + 1 ≡ at = omega arith in
+    let up_to = subst (λ k. since_of s (take k ws) ≡ cond (eqb s w.sector) (w.bytes ∷ since_of s (take (at - 1) ws)) (since_of s (take (at - 1) ws))) z (since-more s ws (at - 1) w (omega arith) e) in
+    sym (up_to ∙ rw (ne_eqb s w.sector (λ z. n (sym z))) refl) ∙ q
+
 latest-append : (old : List ℕ) (a b : List (List ℕ)) → latest old (a ++ b) ≡ latest (latest old b) a
 latest-append old [] b = refl
 latest-append old (x ∷ a) b = refl

@@ -79,7 +79,7 @@ digits-ranked : (a b c d : ℕ) → c < 256 → d < 256 → next (ranked a b) (r
 unfolding next verdict
 digits-ranked a b c d h k = grind (arith, nat_tests)
 
-digit-compared : (a b : ℕ) → Compared (a ∷ []) (b ∷ []) (ranked a b)
+pub digit-compared : (a b : ℕ) → Compared (a ∷ []) (b ∷ []) (ranked a b)
 unfolding verdict
 digit-compared a b = go (cases_order a b)
   where

@@ -1,7 +1,7 @@
 -- Where no slot is free, there are at least as many pages that have one as there are slots.
-use Rattle.std.proofs.Common.{◌≡◌, ℕ, zero, suc, ◌+◌, ◌<◌, ◌≤◌, Bool, true, false, not, ◌&&◌, eqb, leb, ◌⊎◌, refl, subst, inl, inr, arith, eqb-true, ◌≢◌}
+use Rattle.std.proofs.Common.{◌≡◌, ℕ, zero, suc, ◌+◌, ◌<◌, ◌≤◌, Bool, true, false, not, ◌&&◌, eqb, leb, ◌⊎◌, refl, subst, inl, inr, arith, eqb-true, ◌≢◌, ap, ne_eqb}
 use borrow.Author.Tests.{eqb-false}
-use Rattle.std.proofs.lemmas.Bool.{cases_lt}
+use Rattle.std.proofs.lemmas.Bool.{cases_lt, not-true}
 use Rattle.std.proofs.lemmas.Grind.{common_steps}
 use Rattle.shadow.specs.Layout.{Free, count}
 
@@ -40,6 +40,12 @@ upto v t = leb 1 v && leb v t
 -- a present entry that is not the committed one
 abbrev pub moved : ℕ → ℕ → Bool
 moved v u = not (eqb v u)
+
+pub moved-of : (v u : ℕ) → (v ≡ u → ⊥) → moved v u ≡ true
+moved-of v u h = ap not (ne_eqb v u h)
+
+pub moved_in : (v u : ℕ) → moved v u ≡ true → v ≡ u → ⊥
+moved_in v u e = eqb-false v u (not-true (eqb v u) e)
 
 -- no slot is free: each is the committed one of a page, or the present one of a page that has left its committed one
 pub no_room : (N S : ℕ) (b w o : ℕ → ℕ) (live given : ℕ → Bool) → ((p : ℕ) → p < N → 1 ≤ b p → live p ≡ true) → ((p : ℕ) → p < N → 1 ≤ w p → (w p ≡ b p → ⊥) → given p ≡ true) →

@@ -12,7 +12,7 @@ use Rattle.grammar.proofs.Tools.{never, clash, T_true, sign-is, name-inv, number
 use Rattle.grammar.proofs.Sound.{listed-inv}
 use Rattle.text.specs.Cut.{tokens_at, tokens_of, part, name, undoubled, decimal}
 use Rattle.text.specs.Stands.{filled, At, Over, Stands}
-use Rattle.text.specs.Found.{Grown, Read, Answer, Pushed, StandsPart, SaysPart, PartWithin}
+use Rattle.text.specs.Found.{Grown, Read, Answer, Pushed, StandsPart, SaysPart, PartWithin, Ready, Taken, ReadsExpr, ReadsCondition}
 use Rattle.text.specs.declared.nodes.Node.{Node}
 use Rattle.text.specs.declared.nodes.Nodes.{Nodes}
 use Rattle.text.specs.declared.nodes.Span.{Span}
@@ -22,6 +22,8 @@ use Rattle.text.specs.declared.tokens.Place.{Place}
 use Rattle.text.specs.declared.parts.Parsed.{Parsed}
 use Rattle.text.specs.declared.parts.Operand.{Operand}
 use Rattle.text.proofs.Stood.{grown-on, pushed}
+use Rattle.std.specs.Option.{option_map}
+use Rattle.text.specs.declared.parts.Term.{Term}
 
 -- one token less
 pub taken-length : (p : Token → Bool) (ts us : List Token) → head_is p ts ≡ true → us ≡ tail_of ts → length ts ≡ length us + 1
@@ -34,10 +36,28 @@ name-length ts us n h = omega (arith, ap length (name-inv ts h).0)
 pub number-length : (ts us : List Token) (n : ℕ) → a_number ts ≡ gets n us → length ts ≡ length us + 1
 number-length ts us n h = omega (arith, ap length (number-inv ts h).0)
 
+-- there is still room
+pub ready_on : (b : List ℕ) (t u : Nodes) (at to : Place) → Ready b t at → Grown (filled t) (filled u) → length (filled u) + 2 * length (tokens_at b to) ≤ length (filled t) + 2 * length (tokens_at b at) → Ready b u to
+ready_on b t u at to r up l = omega (arith, r, l)
+
+pub ready-same : (b : List ℕ) (t : Nodes) (at to : Place) → Ready b t at → length (tokens_at b to) ≤ length (tokens_at b at) → Ready b t to
+ready-same b t at to r l = omega (arith, r, l)
+
+pub ready-taken : (p : Token → Bool) (b : List ℕ) (t : Nodes) (at to : Place) → Ready b t at → Taken p b (tokens_at b at) (Some to) → Ready b t to
+ready-taken p b t at to r h = ready-same b t at to r (omega (arith, taken-length p (tokens_at b at) (tokens_at b to) h.0 h.1))
+
 -- the answer of a part, from more tokens
 pub lifted : {A V : Type 0} (S : List Node → A → V → Type 0) (F : A → V → Type 0) (W : V → ℕ → Type 0) (n m : ℕ) (b : List ℕ) (t u : Nodes) (ts us : List Token) (g h : Got A) (r : Option (Parsed V)) → g ≡ h → m + 2 * length ts ≤ n + 2 * length us → Answer S F W n b t u ts g r → Answer S F W m b t u us h r
 lifted S F W n m b t u ts us g h None e l a = sym e ∙ a
 lifted S F W n m b t u ts us g h (Some p) e l a = record { it = a.it; is = sym e ∙ a.is; stands = a.stands; says = a.says; within = a.within; grown = a.grown; few = omega (arith, a.few) }
+
+-- an expression that was read is a condition, by its node
+abbrev pub node_of : Parsed Term → Parsed ℕ
+node_of p = record { value = p.value.node; after = p.after }
+
+pub as-condition : (b : List ℕ) (t u : Nodes) (ts us : List Token) (g h : Got Expr) (r : Option (Parsed Term)) → g ≡ h → length ts ≤ length us → ReadsExpr b t u ts g r → ReadsCondition b t u us h (option_map node_of r)
+as-condition b t u ts us g h None e l a = sym e ∙ a
+as-condition b t u ts us g h (Some p) e l a = record { it = a.it; is = sym e ∙ a.is; stands = a.stands; says = tt; within = a.within; grown = a.grown; few = omega (arith, a.few) }
 
 -- a new node over something that was read
 pub over : {A V : Type 0} (S : List Node → A → ℕ → Type 0) (F : A → V → Type 0) (at : V → ℕ) (keeps : (a : A) (f h : List Node) → Grown f h → (i : ℕ) → S f a i → S h a i) (mk : A → Expr) (kd : ℕ → Node) (b : List ℕ) →

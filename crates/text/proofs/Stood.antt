@@ -8,7 +8,7 @@ use Rattle.meaning.specs.Value as value
 use Rattle.meaning.specs.Value.{Value}
 use Rattle.meaning.specs.Tree as tree
 use Rattle.meaning.specs.Tree.{Source, Limit, Expr, Exprs, Keys, Query, query, Col, Set, Name, aggregates}
-use Rattle.text.specs.Stands.{filled, At, Pair, Under, Stands, StandsExprs, StandsKeys, StandsQuery, StandsSources, StandsLimit, Literal}
+use Rattle.text.specs.Stands.{filled, At, Pair, Under, Stands, StandsExprs, StandsKeys, StandsQuery, StandsSources, StandsLimit, Literal, StandsCols, StandsNames, StandsRows, StandsSets}
 use Rattle.text.specs.Found.{Grown, Pushed, makes}
 use Rattle.text.specs.declared.nodes.Node.{Node}
 use Rattle.text.specs.declared.nodes.Node.TheVariants as node
@@ -75,6 +75,23 @@ mutual
 
   pub query-kept : (b : List ℕ) (q : Query) (f h : List Node) → Grown f h → (i : ℕ) → StandsQuery b f q i → StandsQuery b h q i
   query-kept b (query d es from c g grp hv ks l) f h up i s = (s.0, at-kept f h up i _ s.1, s.2, s.3, s.4, exprs-kept b es f h up _ s.5, sources-kept b from f h up _ s.6, kept b c f h up _ s.7, exprs-kept b grp f h up _ s.8, kept b hv f h up _ s.9, keys_kept b ks f h up _ s.10, limit-kept l f h up _ s.11)
+
+-- the other lists keep what they stand for
+pub cols-kept : (b : List ℕ) (cs : List Col) (f h : List Node) → Grown f h → (o : Option ℕ) → StandsCols b f cs o → StandsCols b h cs o
+cols-kept b [] f h up o s = s
+cols-kept b (c ∷ cs) f h up o s = (s.0, s.1, s.2, s.3, at-kept f h up _ _ s.4, s.5, s.6, s.7, cols-kept b cs f h up _ s.8)
+
+pub names-kept : (b : List ℕ) (cs : List Name) (f h : List Node) → Grown f h → (o : Option ℕ) → StandsNames b f cs o → StandsNames b h cs o
+names-kept b [] f h up o s = s
+names-kept b (c ∷ cs) f h up o s = (s.0, s.1, s.2, s.3, at-kept f h up _ _ s.4, s.5, s.6, s.7, names-kept b cs f h up _ s.8)
+
+pub rows-kept : (b : List ℕ) (rs : List Exprs) (f h : List Node) → Grown f h → (o : Option ℕ) → StandsRows b f rs o → StandsRows b h rs o
+rows-kept b [] f h up o s = s
+rows-kept b (r ∷ rs) f h up o s = (s.0, s.1, s.2, s.3, at-kept f h up _ _ s.4, s.5, s.6, exprs-kept b r f h up _ s.7, rows-kept b rs f h up _ s.8)
+
+pub sets-kept : (b : List ℕ) (ss : List Set) (f h : List Node) → Grown f h → (o : Option ℕ) → StandsSets b f ss o → StandsSets b h ss o
+sets-kept b [] f h up o s = s
+sets-kept b (x ∷ ss) f h up o s = (s.0, s.1, s.2, s.3, at-kept f h up _ _ s.4, s.5, s.6, (s.7.0, kept b x.to f h up _ s.7.1), sets-kept b ss f h up _ s.8)
 
 pub under-on : (o : Option ℕ) (m n : ℕ) → m ≤ n → Under o m → Under o n
 under-on None m n l u = tt

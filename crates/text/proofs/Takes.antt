@@ -1,6 +1,6 @@
 -- What the token at a place says of the tokens from there. Assumes nothing.
 use Rattle.std.proofs.Common.{◌≡◌, ℕ, zero, suc, ◌+◌, ◌-◌, ◌*◌, ◌<◌, ◌≤◌, Bool, true, false, cond, not, ltb, ◌==◌, ◌⊎◌, List, [], ◌∷◌, map, length, get_or, drop, sym, refl, ap, ◌∙◌, inl, inr, arith}
-use Rattle.std.proofs.lemmas.Bool.{lt-ltb, le-ltb}
+use Rattle.std.proofs.lemmas.Bool.{lt-ltb, le-ltb, ne_eqb}
 use Rattle.std.proofs.lemmas.List.{at_drop_more, at_drop_all}
 use Rattle.meaning.specs.Text as text
 use Rattle.meaning.specs.Text.{Token, Between, tokens, small, keywords, less_by, k_or, k_and, k_is}
@@ -37,6 +37,12 @@ module _ (b : List ℕ) (x : Place) where
   pub sign-head : (d c : Signs) → x.tok ≡ Sign c → head_is (is_sign (number_of d)) (tokens_at b x) ≡ (number_of c == number_of d)
   unfolding is_sign
   sign-head d c e = ap (head_is (is_sign (number_of d))) (by-tok e)
+
+  pub sign-joint : (c : Signs) → x.tok ≡ Sign c → joint_of (tokens_at b x) ≡ joint (text.Sign (number_of c))
+  sign-joint c e = ap joint_of (by-tok e)
+
+  pub sign-tail : (c : Signs) (ts : List Token) → x.tok ≡ Sign c → ts ≡ tokens Between (drop x.rest b) → ts ≡ tail_of (tokens_at b x)
+  sign-tail c ts e k = k ∙ sym (ap tail_of (by-tok e))
 
   pub key-another : (key : List ℕ) (p : Span) (w : List ℕ) (r : Bool) → x.tok ≡ Word p → w ≡ part b p → r ≡ same_name (map small w) key → head_is (is_word key) (tokens_at b x) ≡ r
   unfolding is_word
@@ -126,6 +132,11 @@ other-joint b (Quoted p) r h k l = inl refl
 other-joint b (Sign c) r h k l = absurd (h c refl)
 other-joint b Wrong r h k l = inl refl
 other-joint b End r h k l = inl refl
+
+-- a sign that is none of these joins nothing
+pub no-infix : (s : ℕ) → (s ≡ 61 → ⊥) → (s ≡ 257 → ⊥) → (s ≡ 60 → ⊥) → (s ≡ 62 → ⊥) → (s ≡ 256 → ⊥) → (s ≡ 259 → ⊥) → (s ≡ 43 → ⊥) → (s ≡ 45 → ⊥) → (s ≡ 258 → ⊥) → (s ≡ 42 → ⊥) → joint (text.Sign s) ≡ ends
+unfolding joint joint_in is_word is_sign
+no-infix s h61 h257 h60 h62 h256 h259 h43 h45 h258 h42 = λ i. cond (ne_eqb s 61 h61 i) (joins 3 4 tree.equal) (cond (ne_eqb s 257 h257 i) (joins 3 4 (λ a b. tree.not' (tree.equal a b))) (cond (ne_eqb s 60 h60 i) (joins 3 4 tree.below) (cond (ne_eqb s 62 h62 i) (joins 3 4 (λ a b. tree.below b a)) (cond (ne_eqb s 256 h256 i) (joins 3 4 tree.at_most) (cond (ne_eqb s 259 h259 i) (joins 3 4 (λ a b. tree.at_most b a)) (cond (ne_eqb s 43 h43 i) (joins 4 4 tree.plus) (cond (ne_eqb s 45 h45 i) (joins 4 4 tree.minus) (cond (ne_eqb s 258 h258 i) (joins 4 4 tree.concat) (cond (ne_eqb s 42 h42 i) (joins 5 5 tree.times) (ends))))))))))
 
 -- the numbers of signs are their own
 back : ℕ → Signs

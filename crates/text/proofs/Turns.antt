@@ -1,11 +1,11 @@
 -- The turns of the loop that climbs. Assumes nothing.
-use Rattle.std.proofs.Common.{◌≡◌, ℕ, zero, suc, Some, ◌+◌, ◌-◌, ◌*◌, ◌<◌, ◌≤◌, Bool, true, false, cond, ◌&&◌, leb, ◌⊎◌, List, [], ◌∷◌, length, sym, refl, ap, ◌∙◌, inl, inr, arith}
+use Rattle.std.proofs.Common.{◌≡◌, ℕ, zero, suc, Some, ◌+◌, ◌-◌, ◌*◌, ◌<◌, ◌≤◌, Bool, true, false, cond, ◌&&◌, leb, ◌⊎◌, List, [], ◌∷◌, length, sym, refl, ap, ◌∙◌, inl, inr, arith, None}
 use Rattle.std.proofs.lemmas.Bool.{le-leb, lt-leb, and_from}
 use Rattle.meaning.specs.Tree.{Expr}
 use Rattle.meaning.specs.Text.{Token, Word, k_is}
 use Rattle.meaning.specs.Meaning.{same_name}
 use Rattle.grammar.specs.Reader.{refuses, gets, and_then, head_is, tail_of, is_word, Joint, ends, tests, joins, null_test, tested}
-use Rattle.grammar.proofs.Tools.{clash, then_is, word-is}
+use Rattle.grammar.proofs.Tools.{clash, then_is, word-is, then-refused}
 use Rattle.grammar.specs.Reader as reader
 use Rattle.text.specs.Cut.{tokens_at}
 use Rattle.text.specs.Stands.{filled}
@@ -84,6 +84,11 @@ pub more-none : (f k : ℕ) (e : reader.Part) (ts : List Token) → f ≡ 0 → 
 unfolding reader.expr
 more-none zero k e ts h = refl
 more-none (suc f) k e ts h = absurd (omega arith)
+
+-- a test for null that fails ends the turns
+pub tested-refused : (b : List ℕ) (t u : Nodes) (us : List Token) (a : Parsed Operand) (k f : ℕ) → ((e : reader.Part) → a.value.level ≡ e.level → reader.more (suc f) k e (tokens_at b a.after) ≡ and_then (null_test us) (λ c vs. reader.more f k (reader.part 3 (tested c e.it)) vs)) →
+    Tested b t u us a.value None → Further b t u k f a None
+tested-refused b t u us a k f is h = λ e v. is e v ∙ then-refused (null_test us) _ h
 
 -- a test for null is one turn
 pub tested-further : (b : List ℕ) (t u : Nodes) (us : List Token) (a p : Parsed Operand) (k f : ℕ) → ((e : reader.Part) → a.value.level ≡ e.level → reader.more (suc f) k e (tokens_at b a.after) ≡ and_then (null_test us) (λ c vs. reader.more f k (reader.part 3 (tested c e.it)) vs)) →

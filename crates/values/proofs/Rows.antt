@@ -289,9 +289,13 @@ pub front-other : (bs rest : List ℕ) (byte : ℕ) → bs ≡ byte ∷ rest →
 front-other bs rest byte e h = front-is bs rest byte byte e refl ∙ rw (ne_eqb byte 0 (λ k. omega arith), ne_eqb byte 1 (λ k. omega arith), ne_eqb byte 2 (λ k. omega arith)) refl
 
 -- a count of columns goes on and ends
-count-more : (n : ℕ) (v : Value) (o : Option (List Value)) → option_map (λ (vs : List Value). n + 1 + length vs) o ≡ option_map (λ (vs : List Value). n + length vs) (option_map (λ (vs : List Value). v ∷ vs) o)
+pub count-more : (n : ℕ) (v : Value) (o : Option (List Value)) → option_map (λ (vs : List Value). n + 1 + length vs) o ≡ option_map (λ (vs : List Value). n + length vs) (option_map (λ (vs : List Value). v ∷ vs) o)
 count-more n v None = refl
 count-more n v (Some vs) = ap Some (omega arith)
+
+pub count_none : (n : ℕ) (bs : List ℕ) → length bs ≡ 0 → Some n ≡ option_map (λ (vs : List Value). n + length vs) (row_of bs)
+unfolding row_by
+count_none n bs h = ap Some (omega arith) ∙ ap (λ (l : List ℕ). option_map (λ (vs : List Value). n + length vs) (row_of l)) (sym (nil_from_length bs h))
 
 pub count-taken : (n : ℕ) (bs rest : List ℕ) (r : Option V.Value) → Takes bs r rest → true ≡ is_some r → (option_map (λ (vs : List Value). n + 1 + length vs) (row_of rest) ≡ option_map (λ (vs : List Value). n + length vs) (row_of bs)) × (length rest < length bs)
 count-taken n bs rest None t e = cc

@@ -1,8 +1,8 @@
 -- The steps of writing a key. Assumes nothing.
-use Rattle.std.proofs.Common.{◌≡◌, ℕ, zero, suc, ◌+◌, ◌-◌, ◌<◌, ◌≤◌, cond, ltb, List, [], ◌∷◌, length, get_or, drop, set, ℤ, pos, negsuc, ◌+ℤ◌, ◌-ℤ◌, nat_abs, sym, refl, ap, ◌∙◌, arith, w64, SFits, to_z, of_z}
+use Rattle.std.proofs.Common.{◌≡◌, ℕ, zero, suc, ◌+◌, ◌-◌, ◌<◌, ◌≤◌, cond, ltb, List, [], ◌∷◌, length, get_or, drop, set, ℤ, pos, negsuc, ◌+ℤ◌, ◌-ℤ◌, nat_abs, sym, refl, ap, ◌∙◌, arith, w64, SFits, to_z, of_z, take}
 use mir.Syntax.{w128}
 use borrow.Rule.Slice.PartMut.{put_mid}
-use Rattle.std.proofs.lemmas.List.{drop_more, drop_all, length-map, length-set}
+use Rattle.std.proofs.lemmas.List.{drop_more, drop_all, length-map, length-set, drop-set-lt}
 use Rattle.std.proofs.lemmas.Int.{to_z-of_z, to_z_pos}
 use Rattle.std.proofs.lemmas.Bool.{cond-false, cond_both, le-ltb}
 use Rattle.meaning.specs.Value.{Value, Null, Num, Text}
@@ -36,6 +36,15 @@ module _ (text : List ℕ) (i : ℕ) (within : i < length text) where
 pub left-none : (text : List ℕ) (i : ℕ) → length text ≤ i → escaped (drop i text) ≡ 0 ∷ 1 ∷ []
 unfolding escaped
 left-none text i h = ap escaped (drop_all i text h)
+
+-- one byte taken from 255
+pub turn_more : (out : List ℕ) (k to : ℕ) → k < to → to ≤ length out → put (set out k (255 - get_or out k 0)) (k + 1) (turned (part (set out k (255 - get_or out k 0)) (k + 1) (to - (k + 1)))) ≡ put out k (turned (part out k (to - k)))
+turn_more out k to h l =
+    let n : to - k ≡ suc (to - (k + 1)) = omega arith in
+    let first : part out k (to - k) ≡ get_or out k 0 ∷ part out (k + 1) (to - (k + 1)) = rw (n, drop_more out k 0 (omega arith)) refl in
+    ap (λ t. put (set out k (255 - get_or out k 0)) (k + 1) (turned (take (to - (k + 1)) t))) (drop-set-lt (k + 1) out k (255 - get_or out k 0) (omega arith))
+    ∙ put-cons out (turned (part out (k + 1) (to - (k + 1)))) k (k + 1) (255 - get_or out k 0) refl (omega arith)
+    ∙ ap (λ t. put out k (turned t)) (sym first)
 
 -- a number with 2^63 added, in 128 bits
 
