@@ -6,5 +6,7 @@
 pub mod answers;
 pub mod drive;
 pub mod lines;
+#[cfg(test)]
+mod tests;
 
 pub use drive::{Disk, Stop};
