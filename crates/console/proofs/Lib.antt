@@ -1,1 +1,2 @@
 mod Doubling
+mod LineLemmas

@@ -6,6 +6,8 @@
 pub mod answers;
 pub mod drive;
 pub mod lines;
+#[cfg(test)]
+mod tests;
 
 pub use drive::{Disk, Stop};
 
