@@ -41,6 +41,11 @@ impl<'o, 'a> Printer<'o, 'a> {
         self.out.extend_from_slice(bytes)
     }
 
+    fn byte(&mut self, byte: u8) -> Result<(), AllocError> {
+        self.out.push(byte)?;
+        Ok(())
+    }
+
     fn name(&mut self, span: Span) -> Result<(), AllocError> {
         let text = self.text;
         for b in bytes_of(text, span) {
@@ -50,6 +55,10 @@ impl<'o, 'a> Printer<'o, 'a> {
     }
 
     fn number(&mut self, n: u64) -> Result<(), AllocError> {
+        // most numbers have one digit
+        if n < 10 {
+            return self.byte(b'0' + n as u8);
+        }
         let mut digits = Buffer::new();
         self.say(digits.format(n).as_bytes())
     }
@@ -148,8 +157,9 @@ impl<'o, 'a> Printer<'o, 'a> {
                 Ok(rest)
             }
             Node::Row(row, rest) => {
-                self.list(b"(", row.first, left)?;
-                self.say(b")")?;
+                self.byte(b'(')?;
+                self.list(b"", row.first, left)?;
+                self.byte(b')')?;
                 Ok(rest)
             }
             Node::Set(set, rest) => {
